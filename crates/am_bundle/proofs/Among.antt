@@ -3,8 +3,8 @@ use Rattle.std.proofs.Common.{◌≡◌, ◌<◌, ℕ, zero, suc, Bool, true, fa
 use Rattle.std.proofs.Common.{arith, slice_index_or, ⊎_elim}
 use Rattle.std.specs.Prelude.{◌↔◌, ◌⊎◌, Contains}
 use Rattle.am_names.specs.declared.EndpointId.{EndpointId}
-use Rattle.am_office.specs.declared.Mask.{Mask}
-use Rattle.am_office.specs.declared.Mask.TheVariants.{NoEvents, NotEmpty}
+use Rattle.am_office_entries.specs.declared.Mask.{Mask}
+use Rattle.am_office_entries.specs.declared.Mask.TheVariants.{NoEvents, NotEmpty}
 use Rattle.am_bundle.specs.Calls.{NoneIsAmong, is_among}
 use Rattle.am_bundle.specs.declared.Readiness.TheVariants.{Ready, NotYet}
 

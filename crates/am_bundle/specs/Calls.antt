@@ -2,10 +2,10 @@
 use Rattle.std.specs.Prelude.{◌≡◌, Bool, false, ◌==◌, List, Contains, map, find, Option, Some, None}
 use Rattle.std.specs.List.{list_any}
 use Rattle.am_names.specs.declared.EndpointId.{EndpointId}
-use Rattle.am_office.specs.declared.Call.{Call}
-use Rattle.am_office.specs.declared.Call.TheVariants.{Poll, Test}
-use Rattle.am_office.specs.declared.Mask.TheVariants.{NoEvents, NotEmpty}
-use Rattle.am_office.specs.declared.Mask.{Mask}
+use Rattle.am_office_entries.specs.declared.Call.{Call}
+use Rattle.am_office_entries.specs.declared.Call.TheVariants.{Poll, Test}
+use Rattle.am_office_entries.specs.declared.Mask.TheVariants.{NoEvents, NotEmpty}
+use Rattle.am_office_entries.specs.declared.Mask.{Mask}
 use Rattle.am_bundle.specs.declared.Readiness.{Readiness}
 use Rattle.am_bundle.specs.declared.Readiness.TheVariants.{Ready, NotYet}
 use Rattle.am_bundle.specs.Lists.{BundleLists}

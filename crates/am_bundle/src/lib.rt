@@ -5,7 +5,7 @@ ghost use Rattle.std.specs.Prelude.{◌≡◌, ◌↔◌, ◌⊎◌, IfOk, map, 
 ghost use Rattle.am_bundle.specs.Calls.{NoneIsAmong, poll_calls, test_calls, is_among, readiness};
 
 use am_names::{EndpointId, NoMemory};
-use am_office::{Call, Mask};
+use am_office_entries::{Call, Mask};
 use std::alloc::Global;
 use std::marker::Model;
 

@@ -4,12 +4,12 @@ use Rattle.std.proofs.Common.{eqb-true, if◌then◌else◌}
 use Rattle.std.proofs.lemmas.Bool.{and_parts}
 use Rattle.am_lemmas.proofs.Bools.{and_second_fails}
 use Rattle.am_names.specs.Names.{same_node}
-use Rattle.am_office.specs.declared.Event.{Event}
-use Rattle.am_office.specs.declared.Event.TheVariants as Events
-use Rattle.am_office.specs.declared.Received.{Received}
-use Rattle.am_office.specs.declared.Outcome.{Outcome}
-use Rattle.am_office.specs.declared.Outcome.TheVariants as Out
-use Rattle.am_office.specs.declared.Entry.{Entry}
+use Rattle.am_office_entries.specs.declared.Event.{Event}
+use Rattle.am_office_entries.specs.declared.Event.TheVariants as Events
+use Rattle.am_office_entries.specs.declared.Received.{Received}
+use Rattle.am_office_entries.specs.declared.Outcome.{Outcome}
+use Rattle.am_office_entries.specs.declared.Outcome.TheVariants as Out
+use Rattle.am_office_entries.specs.declared.Entry.{Entry}
 use Rattle.am_model.specs.Channels.{Channel, same_channel, sequence, attempt, binds, sends, frees, frees_by, decides, decides_by, arrival}
 use Rattle.am_model.proofs.Received.{bit}
 use Rattle.am_model.proofs.Ends.{sequence_push, bound_push, attempt_push, mark_push}

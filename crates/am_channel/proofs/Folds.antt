@@ -1,7 +1,7 @@
 -- The ends of every channel after a list of calls.
 use Rattle.std.proofs.Common.{◌≡◌, Bool, true, false, List, [], ◌∷◌, ◌++◌, refl, sym, ◌∙◌, subst, true≢false, append_assoc, if◌then◌else◌}
 use Rattle.std.proofs.lemmas.List.{append-nil}
-use Rattle.am_office.specs.declared.Entry.{Entry}
+use Rattle.am_office_entries.specs.declared.Entry.{Entry}
 use Rattle.am_model.specs.Channels.{Channel, same_channel}
 use Rattle.am_model.proofs.Names.{same_channel-refl}
 use Rattle.am_channel.specs.declared.ends.Ends.{Ends}

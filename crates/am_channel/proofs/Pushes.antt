@@ -9,13 +9,13 @@ use Rattle.am_names.specs.declared.Parcel.{Parcel}
 use Rattle.am_names.specs.declared.AnswerPacket.{AnswerPacket}
 use Rattle.am_names.specs.Rules.{is_transient}
 use Rattle.std.specs.Prelude.{nat_lt, IfSome}
-use Rattle.am_office.specs.declared.Event.{Event}
-use Rattle.am_office.specs.declared.Event.TheVariants as Events
-use Rattle.am_office.specs.declared.Received.{Received}
-use Rattle.am_office.specs.declared.Received.TheVariants as Got
-use Rattle.am_office.specs.declared.Outcome.{Outcome}
-use Rattle.am_office.specs.declared.Outcome.TheVariants as Out
-use Rattle.am_office.specs.declared.Entry.{Entry}
+use Rattle.am_office_entries.specs.declared.Event.{Event}
+use Rattle.am_office_entries.specs.declared.Event.TheVariants as Events
+use Rattle.am_office_entries.specs.declared.Received.{Received}
+use Rattle.am_office_entries.specs.declared.Received.TheVariants as Got
+use Rattle.am_office_entries.specs.declared.Outcome.{Outcome}
+use Rattle.am_office_entries.specs.declared.Outcome.TheVariants as Out
+use Rattle.am_office_entries.specs.declared.Entry.{Entry}
 use Rattle.am_model.specs.Channels.{Channel, Mark, Arrival, Stale, Again, Fresh, same_channel, sequence, bound_message, attempt, mark, verdict_by, frees_by}
 use Rattle.am_model.specs.Channels.{decides_by, arrival}
 use Rattle.am_model.specs.History.{decided, settle_by}

@@ -1,7 +1,7 @@
 -- The ends of a channel are those that the definitions count in a log.
 use Rattle.std.specs.Prelude.{◌≡◌, List, IfSome}
 use Rattle.std.specs.Option.{option_map}
-use Rattle.am_office.specs.declared.Entry.{Entry}
+use Rattle.am_office_entries.specs.declared.Entry.{Entry}
 use Rattle.am_model.specs.Channels.{Channel, sequence, bound_message, attempt, mark}
 use Rattle.am_channel.specs.declared.sending.Bound.{Bound}
 use Rattle.am_channel.specs.declared.ends.Ends.{Ends}

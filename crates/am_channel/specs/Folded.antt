@@ -1,6 +1,6 @@
 -- The ends of every channel after a list of calls.
 use Rattle.std.specs.Prelude.{List, [], ◌∷◌, map, if◌then◌else◌}
-use Rattle.am_office.specs.declared.Entry.{Entry}
+use Rattle.am_office_entries.specs.declared.Entry.{Entry}
 use Rattle.am_model.specs.Channels.{Channel, same_channel}
 use Rattle.am_channel.specs.declared.ends.Ends.{Ends}
 use Rattle.am_channel.specs.Calls.{Call, IsCallable, Tells, after}

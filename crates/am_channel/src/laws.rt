@@ -7,7 +7,7 @@ ghost use Rattle.am_channel.specs.Folded.{Told, AreMade, ends_after, entries_of}
 ghost use Rattle.am_channel.specs.Lost as lost;
 ghost use Rattle.am_model.specs.Channels.{Channel, sequence};
 ghost use Rattle.am_names.specs.declared.Verdict.{Verdict};
-ghost use Rattle.am_office.specs.declared.Entry.{Entry};
+ghost use Rattle.am_office_entries.specs.declared.Entry.{Entry};
 ghost use Rattle.std.specs.Prelude.{◌≡◌, ◌≢◌, ◌≤◌, None, List, [], ◌∷◌, ◌++◌, length};
 
 /// Ends that no call was made on are those of an empty log.

@@ -8,9 +8,9 @@ use Rattle.std.proofs.lemmas.Bool.{and_parts, not-true}
 use Rattle.std.proofs.lemmas.List.{append-nil}
 use Rattle.am_lexer.specs.Text.{lines_of}
 use Rattle.am_names.specs.declared.EndpointId.{EndpointId}
-use Rattle.am_office.specs.declared.Entry.{Entry}
+use Rattle.am_office_entries.specs.declared.Entry.{Entry}
 use Rattle.am_office_text.specs.Words.{spaced}
-use Rattle.am_office_lines.specs.Lines.{line_of}
+use Rattle.am_office_text.specs.EntryLines.Lines.{line_of}
 use Rattle.am_office_report.specs.Report.{report, journal_part, entries_line, end_part, messages_part, told}
 use Rattle.am_check_lines.specs.Grammar.{printed}
 use Rattle.am_check_lines.proofs.Cuts.{is_free}

@@ -1,7 +1,7 @@
 -- An entry that comes next is told by its line, and nothing stops that line.
 use Rattle.std.proofs.Common.{◌≡◌, true, List, length, Option, Some, None, refl, sym, ap, ◌∙◌, subst, ⊎_elim}
-use Rattle.am_office.specs.declared.Entry.{Entry}
-use Rattle.am_office.specs.declared.Event.{Event}
+use Rattle.am_office_entries.specs.declared.Entry.{Entry}
+use Rattle.am_office_entries.specs.declared.Event.{Event}
 use Rattle.am_model.specs.History.{failing, is_in_range}
 use Rattle.am_model.specs.Steps.{NotEnabled, LogFull, stop}
 use Rattle.am_scenario_types.specs.declared.parts.Form.{Form}

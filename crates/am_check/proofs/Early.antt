@@ -1,10 +1,10 @@
 -- Why an event of a run is not made.
 use Rattle.std.specs.Prelude.{◌↔◌, Err}
 use Rattle.std.proofs.Common.{◌≡◌, Bool, true, false, Option, Some, None, List, refl}
-use Rattle.am_office.specs.declared.Condition.{Condition}
-use Rattle.am_office.specs.declared.Event.{Event}
-use Rattle.am_office.specs.declared.Entry.{Entry}
-use Rattle.am_office.specs.declared.Part.{Part}
+use Rattle.am_office_entries.specs.declared.Condition.{Condition}
+use Rattle.am_office_entries.specs.declared.Event.{Event}
+use Rattle.am_office_entries.specs.declared.Entry.{Entry}
+use Rattle.am_office_entries.specs.declared.Part.{Part}
 use Rattle.am_model.specs.History.{failing}
 use Rattle.am_model.specs.Steps.{LogFull, full_log, stop_by}
 use Rattle.am_machine.specs.View.{Applies, ClusterView}

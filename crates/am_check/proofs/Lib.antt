@@ -12,3 +12,5 @@ pub mod Scripts
 pub mod Declared
 pub mod Early
 pub mod Walks
+pub mod Returning
+pub mod Walking

@@ -6,14 +6,14 @@ use Rattle.std.proofs.lemmas.Bool.{and_parts, or_cases, ltb-true, leb-true}
 use Rattle.am_names.specs.declared.EndpointId.{EndpointId}
 use Rattle.am_names.specs.declared.NodeId.{NodeId}
 use Rattle.am_names.specs.declared.Words.{Words}
-use Rattle.am_office.specs.declared.Actor.{Actor}
-use Rattle.am_office.specs.declared.Actor.TheVariants.{Thread, Outside}
-use Rattle.am_office.specs.declared.HandlerKind.{HandlerKind}
-use Rattle.am_office.specs.declared.HandlerKind.TheVariants as Kinds
-use Rattle.am_office.specs.declared.Call.{Call}
-use Rattle.am_office.specs.declared.Call.TheVariants as Calls
-use Rattle.am_office.specs.declared.Event.{Event}
-use Rattle.am_office.specs.declared.Event.TheVariants as Events
+use Rattle.am_office_entries.specs.declared.Actor.{Actor}
+use Rattle.am_office_entries.specs.declared.Actor.TheVariants.{Thread, Outside}
+use Rattle.am_office_entries.specs.declared.HandlerKind.{HandlerKind}
+use Rattle.am_office_entries.specs.declared.HandlerKind.TheVariants as Kinds
+use Rattle.am_office_entries.specs.declared.Call.{Call}
+use Rattle.am_office_entries.specs.declared.Call.TheVariants as Calls
+use Rattle.am_office_entries.specs.declared.Event.{Event}
+use Rattle.am_office_entries.specs.declared.Event.TheVariants as Events
 use Rattle.am_model.specs.Layout.{Layout, EndSetting, AllAre, IsSettingLawful, has_id, declared}
 use Rattle.am_model.specs.History.{is_in_range, is_actor_in_range, is_call_in_range, is_kind_in_range, are_words_in_range, are_credits_in_range, is_byte}
 use Rattle.am_model.specs.History.{is_four_bytes, is_eight_bytes}

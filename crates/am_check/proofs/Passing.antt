@@ -1,7 +1,7 @@
 -- A line that passes makes the journal one entry longer.
 use Rattle.std.proofs.Common.{◌≡◌, ◌+◌, List, [], ◌∷◌, ◌++◌, length, map, ℕ, sym, ap, subst, ◌∙◌, append_assoc}
 use Rattle.std.proofs.lemmas.List.{map_push, length-append}
-use Rattle.am_office.specs.declared.Entry.{Entry}
+use Rattle.am_office_entries.specs.declared.Entry.{Entry}
 use Rattle.am_check_lines.specs.Grammar.{printed}
 use Rattle.am_model.proofs.Each.{each_push}
 use Rattle.am_scenario_types.specs.declared.parts.Form.{Form}

@@ -1,13 +1,13 @@
 -- A line is stopped for one reason.
 use Rattle.std.proofs.Common.{◌≡◌, ◌⊎◌, ℕ, List, Option, Some, None, refl, sym, ap, ◌∙◌, subst, inl, inr, ⊎_elim}
 use Rattle.am_cluster_scripted.proofs.Applying.{stop_refused}
-use Rattle.am_office.specs.declared.Condition.{Condition}
-use Rattle.am_office.specs.declared.Part.{Part}
-use Rattle.am_office.specs.declared.Entry.{Entry}
-use Rattle.am_office.specs.declared.Event.{Event}
+use Rattle.am_office_entries.specs.declared.Condition.{Condition}
+use Rattle.am_office_entries.specs.declared.Part.{Part}
+use Rattle.am_office_entries.specs.declared.Entry.{Entry}
+use Rattle.am_office_entries.specs.declared.Event.{Event}
 use Rattle.am_model.specs.History.{failing}
 use Rattle.am_model.specs.Steps.{NotEnabled, LogFull, Stop, stop, stop_by, full_log}
-use Rattle.am_model_steps.proofs.Steps.{no_condition}
+use Rattle.am_model_scripts.proofs.StepMakers.{no_condition}
 use Rattle.am_scenario_types.specs.declared.parts.Form.{Form}
 use Rattle.am_scenario_types.specs.Lists.{ScenarioLists}
 use Rattle.am_model_scripts.specs.Layout.{layout_of}

@@ -4,8 +4,8 @@ use Rattle.std.specs.List.{list_all, range_with_len, cons_option, AllByRecursion
 use Rattle.std.proofs.Common.{◌≡◌, ℕ, ◌+◌, Bool, true, false, cond, Option, Some, None, List, [], ◌∷◌, length, map, refl, sym, ap, ◌∙◌, arith, eqb-true}
 use Rattle.std.proofs.lemmas.Bool.{and_parts, not-true}
 use Rattle.am_names.specs.declared.NodeId.{NodeId}
-use Rattle.am_office.specs.declared.Entry.{Entry}
-use Rattle.am_office.specs.declared.Event.TheVariants as Events
+use Rattle.am_office_entries.specs.declared.Entry.{Entry}
+use Rattle.am_office_entries.specs.declared.Event.TheVariants as Events
 use Rattle.am_model.specs.declared.Queued.{Queued}
 use Rattle.am_model.specs.History.{is_bound, channel_to}
 use Rattle.am_scenario_types.specs.declared.parts.ThreadLine.{ThreadLine}
@@ -24,7 +24,7 @@ use Rattle.am_scenario_types.specs.Lawful.{IsLawful}
 use Rattle.am_model_scripts.specs.Scripts.{BeginsScripts}
 use Rattle.am_model_scripts.proofs.Done.{scripts_are_done}
 use Rattle.am_model_drain.proofs.Rest.{NoRule, no_call_left, no_rule, rests_at_end}
-use Rattle.am_laws_drain.proofs.Soundness.{histories_are_sound}
+use Rattle.am_laws_runs.proofs.Soundness.{histories_are_sound}
 use Rattle.am_check.specs.Follows.{IsRunEnded}
 
 -- none of some there is

@@ -2,8 +2,8 @@
 -- of a run its scripts, whoever made their entries and in whichever phase.
 use Rattle.std.specs.Prelude.{◌≡◌, true, false, Option, Some, None, List, [], length, map, slice_get}
 use Rattle.am_names.specs.declared.EndpointId.{EndpointId}
-use Rattle.am_office.specs.declared.Event.{Event}
-use Rattle.am_office.specs.declared.Entry.{Entry}
+use Rattle.am_office_entries.specs.declared.Event.{Event}
+use Rattle.am_office_entries.specs.declared.Entry.{Entry}
 use Rattle.am_model.specs.History.{EachAfter, is_in_range}
 use Rattle.am_model.specs.Steps.{stop}
 use Rattle.am_scenario_types.specs.declared.parts.Form.{Form}

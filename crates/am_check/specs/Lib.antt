@@ -5,3 +5,4 @@ pub mod Lines
 pub mod Verdict
 pub mod Steps
 pub mod Declares
+pub mod Laws

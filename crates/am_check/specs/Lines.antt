@@ -1,7 +1,7 @@
 -- The lines of a report, and what keeps one of its journal from passing.
 use Rattle.std.specs.Prelude.{◌≡◌, ◌⊎◌, ℕ, Bool, true, Some, None, List, [], ◌∷◌, ◌++◌}
-use Rattle.am_office.specs.declared.Event.{Event}
-use Rattle.am_office.specs.declared.Entry.{Entry}
+use Rattle.am_office_entries.specs.declared.Event.{Event}
+use Rattle.am_office_entries.specs.declared.Entry.{Entry}
 use Rattle.am_check_lines.specs.Grammar.{IsLineOf, printed}
 use Rattle.am_model.specs.History.{failing}
 use Rattle.am_model.specs.Steps.{NotEnabled, LogFull, stop}

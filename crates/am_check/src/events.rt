@@ -9,7 +9,7 @@ ghost use Rattle.std.specs.Prelude.{◌≡◌, ◌&&◌, nat_lt};
 
 use am_model::{are_credits_in_range, is_kind_in_range};
 use am_names::{EndpointId, NodeId};
-use am_office::{Actor, Call, Event};
+use am_office_entries::{Actor, Call, Event};
 use am_scenario::{EndLine, Scenario};
 
 /// Whether one of these lines declares an endpoint.

@@ -2,15 +2,15 @@
 
 ghost use Rattle.am_check.specs.Follows.{IsBegun, IsEnded, MayCome};
 ghost use Rattle.am_check.specs.Lines.{MakesOne, StopsEvent};
-ghost use Rattle.am_office.specs.declared.Entry.{Entry as Made};
+ghost use Rattle.am_office_entries.specs.declared.Entry.{Entry as Made};
 ghost use Rattle.am_scenario_types.specs.Lists.{ScenarioLists};
 ghost use Rattle.am_scenario_types.specs.declared.parts.Form.{Form};
 ghost use Rattle.std.specs.Prelude.{◌≡◌, ◌↔◌, IfErr, IfOk, IsTrue, List};
 
 use crate::faults::LineStop;
 use am_names::NoMemory;
-use am_office::{Entry, Event};
-use am_office_journal::LoggedJournal;
+use am_office_entries::logged::LoggedJournal;
+use am_office_entries::{Entry, Event};
 use std::alloc::Global;
 
 /// A cluster that makes the entries of a scenario of one form.

@@ -17,6 +17,7 @@ mod exact;
 mod faults;
 mod follower;
 mod head;
+pub mod laws;
 mod lines;
 mod runs;
 mod same;

@@ -11,8 +11,8 @@ use crate::follower::Follower;
 use am_check_lines::{parse_line, printed_lines_are_read};
 use am_lexer::next_line;
 use am_names::NoMemory;
-use am_office::{Entry, Event};
-use am_office_lines::entry_line;
+use am_office_entries::{Entry, Event};
+use am_office_text::entry_lines::entry_line;
 use std::alloc::Global;
 
 /// Whether a printed line is this one and a newline.

@@ -17,12 +17,12 @@ use crate::faults::{CheckWhat, LineStop};
 use crate::follower::Follower;
 use crate::same::is_same_script_call;
 use crate::step_cluster::stop_of;
-use am_cluster_drainer::{Machine, next_turn, receipt};
+use am_cluster_drainer::{Drainable, next_turn, receipt};
 use am_cluster_scripted::ScriptedCluster;
 use am_model::EntryFault;
 use am_names::{NoMemory, NodeId};
-use am_office::{Actor, Entry, Event};
-use am_office_journal::LoggedJournal;
+use am_office_entries::logged::LoggedJournal;
+use am_office_entries::{Actor, Entry, Event};
 use am_scenario::ScriptCall;
 use std::alloc::Global;
 

@@ -1,11 +1,11 @@
 //! Whether two events are the same.
 
-ghost use Rattle.am_office.specs.declared.Call.TheVariants as Calls;
-ghost use Rattle.am_office.specs.declared.Event.TheVariants as Events;
+ghost use Rattle.am_office_entries.specs.declared.Call.TheVariants as Calls;
+ghost use Rattle.am_office_entries.specs.declared.Event.TheVariants as Events;
 ghost use Rattle.std.specs.Prelude.{◌≡◌, ◌↔◌, IsTrue};
 
 use am_names::{EndpointId, NodeId, Serial, Tag, Words};
-use am_office::{Actor, Call, Event, HandlerKind, Mask};
+use am_office_entries::{Actor, Call, Event, HandlerKind, Mask};
 use am_scenario::ScriptCall;
 
 fn is_request(other: Call, index: u8, handler: u8, words: Words) -> bool

@@ -6,18 +6,18 @@ use Rattle.am_names.specs.declared.EndpointId.{EndpointId}
 use Rattle.am_names.specs.declared.NodeId.{NodeId}
 use Rattle.am_names.specs.declared.Serial.{Serial}
 use Rattle.am_names.specs.declared.Tag.{Tag}
-use Rattle.am_office.specs.declared.Actor.{Actor}
-use Rattle.am_office.specs.declared.Actor.TheVariants as Actors
-use Rattle.am_office.specs.declared.HandlerKind.{HandlerKind}
-use Rattle.am_office.specs.declared.HandlerKind.TheVariants as Kinds
-use Rattle.am_office.specs.declared.Mask.{Mask}
-use Rattle.am_office.specs.declared.Mask.TheVariants as Masks
-use Rattle.am_office.specs.declared.Call.{Call}
-use Rattle.am_office.specs.declared.Call.TheVariants as Calls
-use Rattle.am_office.specs.declared.Event.{Event}
-use Rattle.am_office.specs.declared.Event.TheVariants as Events
+use Rattle.am_office_entries.specs.declared.Actor.{Actor}
+use Rattle.am_office_entries.specs.declared.Actor.TheVariants as Actors
+use Rattle.am_office_entries.specs.declared.HandlerKind.{HandlerKind}
+use Rattle.am_office_entries.specs.declared.HandlerKind.TheVariants as Kinds
+use Rattle.am_office_entries.specs.declared.Mask.{Mask}
+use Rattle.am_office_entries.specs.declared.Mask.TheVariants as Masks
+use Rattle.am_office_entries.specs.declared.Call.{Call}
+use Rattle.am_office_entries.specs.declared.Call.TheVariants as Calls
+use Rattle.am_office_entries.specs.declared.Event.{Event}
+use Rattle.am_office_entries.specs.declared.Event.TheVariants as Events
 use Rattle.am_office_text.specs.Words.{Word, tag, serial}
-use Rattle.am_office_lines.specs.Lines.{who, what, actor, interface, driver, call, handler_kind, mask}
+use Rattle.am_office_text.specs.EntryLines.Lines.{who, what, actor, interface, driver, call, handler_kind, mask}
 use Rattle.am_check_lines.specs.Grammar.{IsByte, IsFourBytes, IsEightBytes, IsSerial, AreNumbersOf, AreNumbersOfCall, AreNumbersOfKind}
 use Rattle.am_check_lines.specs.Reading.{Read, word_at, number_at, byte_at, count_at, long_at, end_at, node_at, tag_at, serial_at, numbered, head_of}
 use Rattle.am_check_lines.specs.Reading.{request_at, poll_at, set_tag_at, map_at, unmap_at, echo_at, add_at, kind_at, set_handler_at, give_up_at, close_at}

@@ -2,16 +2,16 @@
 use Rattle.std.proofs.Common.{◌≡◌, true, refl}
 use Rattle.std.specs.List.{list_all}
 use Rattle.am_names.specs.declared.EndpointId.{EndpointId}
-use Rattle.am_office.specs.declared.Actor.TheVariants as Actors
-use Rattle.am_office.specs.declared.HandlerKind.{HandlerKind}
-use Rattle.am_office.specs.declared.HandlerKind.TheVariants as Kinds
-use Rattle.am_office.specs.declared.Mask.{Mask}
-use Rattle.am_office.specs.declared.Mask.TheVariants as Masks
-use Rattle.am_office.specs.declared.Call.{Call}
-use Rattle.am_office.specs.declared.Call.TheVariants as Calls
-use Rattle.am_office.specs.declared.Event.{Event}
-use Rattle.am_office.specs.declared.Event.TheVariants as Events
-use Rattle.am_office_lines.specs.Lines.{who, what, actor, interface, driver, call, handler_kind, mask}
+use Rattle.am_office_entries.specs.declared.Actor.TheVariants as Actors
+use Rattle.am_office_entries.specs.declared.HandlerKind.{HandlerKind}
+use Rattle.am_office_entries.specs.declared.HandlerKind.TheVariants as Kinds
+use Rattle.am_office_entries.specs.declared.Mask.{Mask}
+use Rattle.am_office_entries.specs.declared.Mask.TheVariants as Masks
+use Rattle.am_office_entries.specs.declared.Call.{Call}
+use Rattle.am_office_entries.specs.declared.Call.TheVariants as Calls
+use Rattle.am_office_entries.specs.declared.Event.{Event}
+use Rattle.am_office_entries.specs.declared.Event.TheVariants as Events
+use Rattle.am_office_text.specs.EntryLines.Lines.{who, what, actor, interface, driver, call, handler_kind, mask}
 use Rattle.am_check_lines.specs.Grammar.{IsByte, AreNumbersOf, AreNumbersOfCall, AreNumbersOfKind}
 use Rattle.am_check_lines.proofs.Printed.{byte_free, four_free, eight_free, tag_free, serial_free}
 use Rattle.am_check_lines.proofs.Cuts.{is_free}

@@ -7,14 +7,14 @@ use Rattle.std.proofs.lemmas.Bool.{cases_Bool, and_parts}
 use Rattle.std.proofs.lemmas.Slice.Eq.{bytes_eq-Decides}
 use Rattle.std.proofs.lemmas.List.Splits.{length-slice_split}
 use Rattle.am_lemmas.proofs.Binds.{bind_some}
-use Rattle.am_office.specs.declared.Event.{Event}
-use Rattle.am_office.specs.declared.Received.{Received}
-use Rattle.am_office.specs.declared.Received.TheVariants as Got
-use Rattle.am_office.specs.declared.Outcome.{Outcome}
-use Rattle.am_office.specs.declared.Outcome.TheVariants as Out
-use Rattle.am_office.specs.declared.Entry.{Entry}
+use Rattle.am_office_entries.specs.declared.Event.{Event}
+use Rattle.am_office_entries.specs.declared.Received.{Received}
+use Rattle.am_office_entries.specs.declared.Received.TheVariants as Got
+use Rattle.am_office_entries.specs.declared.Outcome.{Outcome}
+use Rattle.am_office_entries.specs.declared.Outcome.TheVariants as Out
+use Rattle.am_office_entries.specs.declared.Entry.{Entry}
 use Rattle.am_office_text.specs.Words.{Word, spaced}
-use Rattle.am_office_lines.specs.Lines.{who, what, outcome, received, after_arrow, line_of}
+use Rattle.am_office_text.specs.EntryLines.Lines.{who, what, outcome, received, after_arrow, line_of}
 use Rattle.am_check_lines.specs.Grammar.{AreNumbersOf, left_side, IsRightSide, IsLineOf, printed}
 use Rattle.am_check_lines.specs.Reading.{words_in, words_behind, event_at, has_more, is_right_side, event_of}
 use Rattle.am_check_lines.specs.Laws.{LinesAreRead, PrintedLinesAreLines}

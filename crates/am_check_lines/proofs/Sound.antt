@@ -16,17 +16,17 @@ use Rattle.am_names.specs.declared.EndpointId.{EndpointId}
 use Rattle.am_names.specs.declared.NodeId.{NodeId}
 use Rattle.am_names.specs.declared.Serial.{Serial}
 use Rattle.am_names.specs.declared.Tag.{Tag}
-use Rattle.am_office.specs.declared.Actor.{Actor}
-use Rattle.am_office.specs.declared.Actor.TheVariants as Actors
-use Rattle.am_office.specs.declared.HandlerKind.{HandlerKind}
-use Rattle.am_office.specs.declared.HandlerKind.TheVariants as Kinds
-use Rattle.am_office.specs.declared.Mask.{Mask}
-use Rattle.am_office.specs.declared.Mask.TheVariants as Masks
-use Rattle.am_office.specs.declared.Call.{Call}
-use Rattle.am_office.specs.declared.Event.{Event}
-use Rattle.am_office.specs.declared.Event.TheVariants as Events
+use Rattle.am_office_entries.specs.declared.Actor.{Actor}
+use Rattle.am_office_entries.specs.declared.Actor.TheVariants as Actors
+use Rattle.am_office_entries.specs.declared.HandlerKind.{HandlerKind}
+use Rattle.am_office_entries.specs.declared.HandlerKind.TheVariants as Kinds
+use Rattle.am_office_entries.specs.declared.Mask.{Mask}
+use Rattle.am_office_entries.specs.declared.Mask.TheVariants as Masks
+use Rattle.am_office_entries.specs.declared.Call.{Call}
+use Rattle.am_office_entries.specs.declared.Event.{Event}
+use Rattle.am_office_entries.specs.declared.Event.TheVariants as Events
 use Rattle.am_office_text.specs.Words.{Word, tag, serial}
-use Rattle.am_office_lines.specs.Lines.{who, what, actor, interface, driver, call, handler_kind, mask}
+use Rattle.am_office_text.specs.EntryLines.Lines.{who, what, actor, interface, driver, call, handler_kind, mask}
 use Rattle.am_check_lines.specs.declared.words.Head.{Head}
 use Rattle.am_check_lines.specs.declared.words.Head.TheVariants as Heads
 use Rattle.am_check_lines.specs.Grammar.{IsByte, IsFourBytes, IsEightBytes, IsSerial, AreNumbersOf, AreNumbersOfCall, AreNumbersOfKind, IsNumberOfActor}

@@ -1,8 +1,8 @@
 -- What is so of every line of a printed journal.
 use Rattle.std.specs.Prelude.{◌≡◌, ◌↔◌, ◌++◌, List, ℕ, Some, codes}
-use Rattle.am_office.specs.declared.Event.{Event}
-use Rattle.am_office.specs.declared.Entry.{Entry}
-use Rattle.am_office_lines.specs.Lines.{line_of}
+use Rattle.am_office_entries.specs.declared.Event.{Event}
+use Rattle.am_office_entries.specs.declared.Entry.{Entry}
+use Rattle.am_office_text.specs.EntryLines.Lines.{line_of}
 use Rattle.am_check_lines.specs.Grammar.{AreNumbersOf, IsLineOf, printed}
 use Rattle.am_check_lines.specs.Reading.{event_of}
 

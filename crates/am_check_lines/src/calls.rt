@@ -5,7 +5,7 @@ ghost use Rattle.am_check_lines.specs.Reading.{Gives, words_behind, request_at, 
 use crate::numbers::{take_byte, take_end, take_long, take_serial, take_tag};
 use crate::words::take_word;
 use am_names::{EndpointId, Words};
-use am_office::{Call, HandlerKind, Mask};
+use am_office_entries::{Call, HandlerKind, Mask};
 
 type Called<'a> = ((EndpointId, Call), &'a [u8]);
 

@@ -7,7 +7,7 @@ use crate::calls::take_call;
 use crate::numbers::{byte_of, take_byte, take_count, take_end, take_node};
 use crate::words::{Head, split_word, take_word};
 use am_names::NodeId;
-use am_office::{Actor, Event};
+use am_office_entries::{Actor, Event};
 
 #[tactic(auto, unfolding(crate::specs::Reading::numbered))]
 fn numbered(letter: u8, digits: &[u8]) -> Option<Head>

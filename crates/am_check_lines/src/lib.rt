@@ -4,7 +4,7 @@
 ghost use Rattle.am_check_lines.specs.Grammar.{IsLineOf};
 ghost use Rattle.am_check_lines.specs.Reading.{Gives, event_of, has_more, is_right_side, words_behind};
 ghost use Rattle.am_check_lines.specs.Laws.{LinesAreRead, PrintedLinesAreLines};
-ghost use Rattle.am_office.specs.declared.Event.{Event as Happening};
+ghost use Rattle.am_office_entries.specs.declared.Event.{Event as Happening};
 ghost use Rattle.std.specs.Prelude.{◌≡◌, IfSome, None};
 
 mod calls;
@@ -14,7 +14,7 @@ mod words;
 
 use crate::events::take_event;
 use crate::words::take_word;
-use am_office::Event;
+use am_office_entries::Event;
 pub use numbers::printed_number;
 
 /// What a line of a printed journal tells.

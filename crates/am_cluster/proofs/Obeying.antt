@@ -1,10 +1,10 @@
 -- The journal of a run obeys the laws of runs, whether it came to its end or met a full log.
 use Rattle.std.specs.Prelude.{length}
-use Rattle.std.proofs.Common.{◌≡◌, true, ◌≤◌, ◌<◌, ◌^◌, List, [], arith, refl, sym, subst}
+use Rattle.std.proofs.Common.{◌≡◌, true, ◌≤◌, ◌<◌, ◌^◌, List, [], Result, Ok, Err, arith, refl, sym, subst}
 use Rattle.am_names.specs.declared.Cause.{Cause}
 use Rattle.am_names.specs.declared.Serial.{Serial}
-use Rattle.am_office.specs.declared.Entry.{Entry}
-use Rattle.am_office.specs.declared.Part.{Part}
+use Rattle.am_office_entries.specs.declared.Entry.{Entry}
+use Rattle.am_office_entries.specs.declared.Part.{Part}
 use Rattle.am_model.specs.Layout.{Layout}
 use Rattle.am_model.specs.Merge.{is_ordered}
 use Rattle.am_model.specs.PostOffice.{PostOffice}
@@ -16,17 +16,19 @@ use Rattle.am_model_scripts.specs.Layout.{layout_of}
 use Rattle.am_model_drain.specs.Cut.{IsDrainCutOff, IsDrainedWithRoom}
 use Rattle.am_model_drain.specs.Follows.{IsGoodPhase, IsStoppedFor}
 use Rattle.am_model_drain.proofs.Stopped.{cut_off_is_stopped}
-use Rattle.am_laws_drain_steps.specs.Enabled.{IsOfRun}
-use Rattle.am_laws_drain_steps.specs.Endings.{IsOrderly, WithholdsNothing}
-use Rattle.am_laws_drain_steps.specs.Runs.{IsWholeRun}
-use Rattle.am_laws_drain_steps.proofs.Nothing.{none_is_unknown}
-use Rattle.am_laws_drain_steps.proofs.Turning.{drains_make_runs}
-use Rattle.am_laws_drain_steps.proofs.Unknown.{unknown_is_withheld}
+use Rattle.am_laws_runs.specs.Turns.Enabled.{IsOfRun}
+use Rattle.am_laws_runs.specs.Turns.Endings.{IsOrderly, WithholdsNothing}
+use Rattle.am_laws_runs.specs.Turns.Runs.{IsWholeRun}
+use Rattle.am_laws_runs.proofs.Nothing.{none_is_unknown}
+use Rattle.am_laws_runs.proofs.Turning.{drains_make_runs}
+use Rattle.am_laws_runs.proofs.Unknown.{unknown_is_withheld}
 use Rattle.am_laws_runs.specs.Drained.{HasShortLogs, IsShortHistory}
 use Rattle.am_laws_runs.proofs.Drained.{cut_offs_are_short, drains_are_short, empty_is_good_phase, far_below, no_logs}
 use Rattle.am_laws_runs.proofs.Returns.{returns_are_for_good}
 use Rattle.am_laws_runs.proofs.Stopped.{stopped_returns_are_for_good, stopped_runs_are_orderly}
-use Rattle.am_cluster.specs.Runs.{IsAloneCutOff, IsAloneStopped, IsPhaseOfRun, IsRunCutOff, IsRunDone, IsRunStopped, ObeysRunLaws}
+use Rattle.am_cluster.specs.Runs.{EndsPhase, IsAloneCutOff, IsAloneStopped, IsFedRun, IsPhaseOfRun, IsRunCutOff, IsRunDone, IsRunStopped, ObeysRunLaws}
+use Rattle.am_cluster_crew.specs.Fed.{IsFedPhase}
+use Rattle.am_cluster.specs.declared.Finished.{Finished}
 use Rattle.am_cluster.specs.declared.RunFault.{RunFault}
 use Rattle.am_cluster.specs.declared.RunFault.TheVariants as Runs
 
@@ -129,3 +131,10 @@ pub handed_cut_off : (s : ScenarioLists) (phase : List Entry) (part : Part) (end
 handed_cut_off s phase part end journal layout lawful packet made c is same laws order =
     subst (λ (j : List Entry). IsRunCutOff s part j) (sym is)
     (run_is_cut_off s phase part end lawful packet made c (subst (λ (l : Layout). PostOffice l end) same laws) order)
+
+-- ---- a run whose workers all found memory
+
+pub fed_run : (s : ScenarioLists) (phase : List Entry) (r : Result Finished RunFault) → IsFedPhase s phase → EndsPhase s phase r → IsFedRun s r
+fed_run s phase (Ok finished) fed ends = (phase, fed, ends)
+fed_run s phase (Err (Runs.LogFull part journal)) fed ends = (phase, fed, ends)
+fed_run s phase (Err Runs.NoMemory) fed ends = tt

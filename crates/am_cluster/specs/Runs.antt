@@ -1,12 +1,12 @@
 -- What a run of a scenario answers, with threads and without, and what a drain of a cluster leaves.
-use Rattle.std.specs.Prelude.{◌≡◌, ◌≢◌, Some, false, true, List, []}
+use Rattle.std.specs.Prelude.{◌≡◌, ◌≢◌, Some, false, true, List, [], Result, Ok, Err}
 use Rattle.am_names.specs.Rules.{is_transient}
 use Rattle.am_names.specs.declared.Cause.{Cause}
 use Rattle.am_names.specs.declared.Serial.{Serial}
-use Rattle.am_office.specs.declared.Entry.{Entry}
-use Rattle.am_office.specs.declared.Part.{Part}
-use Rattle.am_office.specs.declared.endings.Fate.TheVariants as Fates
-use Rattle.am_office.specs.Fates.{fate}
+use Rattle.am_office_entries.specs.declared.Entry.{Entry}
+use Rattle.am_office_entries.specs.declared.Part.{Part}
+use Rattle.am_office_entries.specs.declared.endings.Fate.TheVariants as Fates
+use Rattle.am_office_entries.specs.Fates.{fate}
 use Rattle.am_laws.specs.Fates.{HasOneFate}
 use Rattle.am_model.specs.History.{IsHistory}
 use Rattle.am_model.specs.Merge.{is_ordered}
@@ -16,8 +16,10 @@ use Rattle.am_model_scripts.specs.Layout.{layout_of}
 use Rattle.am_model_drain.specs.Cut.{IsDrainCutOff, IsDrainedWithRoom}
 use Rattle.am_model_drain.specs.Follows.{IsGoodPhase, IsStoppedFor}
 use Rattle.am_cluster_drainer.specs.Stops.{IsDrainBeginning}
-use Rattle.am_laws_drain_steps.specs.Endings.{UnknownIsPlanned, WithholdsNothing}
+use Rattle.am_laws_runs.specs.Turns.Endings.{UnknownIsPlanned, WithholdsNothing}
 use Rattle.am_laws_runs.specs.Drained.{HasShortLogs}
+use Rattle.am_cluster_crew.specs.Fed.{IsFedPhase}
+use Rattle.am_cluster.specs.declared.Finished.{Finished}
 use Rattle.am_cluster.specs.declared.RunFault.{RunFault}
 use Rattle.am_cluster.specs.declared.RunFault.TheVariants as Runs
 use Rattle.am_cluster.specs.declared.DrainFault.{DrainFault}
@@ -75,6 +77,18 @@ pub record IsAloneCutOff (s : ScenarioLists) (part : Part) (journal : List Entry
 abbrev pub IsRunStopped : ScenarioLists → RunFault → Type 0
 IsRunStopped s (Runs.LogFull part journal) = IsRunCutOff s part journal
 IsRunStopped s Runs.NoMemory = Unit {0}
+
+-- what the drain of a phase answers: its journal is what the drain makes of that phase
+abbrev pub EndsPhase : ScenarioLists → List Entry → Result Finished RunFault → Type 0
+EndsPhase s phase (Ok finished) = IsDrainedWithRoom s phase finished.journal
+EndsPhase s phase (Err (Runs.LogFull part journal)) = IsDrainCutOff s phase part journal
+EndsPhase s phase (Err Runs.NoMemory) = Unit {0}
+
+-- a run whose phase was drained is one of whose workers none found no memory
+abbrev pub IsFedRun : ScenarioLists → Result Finished RunFault → Type 0
+IsFedRun s (Ok finished) = (phase : List Entry) × IsFedPhase s phase × EndsPhase s phase (Ok finished)
+IsFedRun s (Err (Runs.LogFull part journal)) = (phase : List Entry) × IsFedPhase s phase × EndsPhase s phase (Err (Runs.LogFull part journal))
+IsFedRun s (Err Runs.NoMemory) = Unit {0}
 
 -- and why one without threads did not
 abbrev pub IsAloneStopped : ScenarioLists → RunFault → Type 0

@@ -2,8 +2,8 @@
 ghost use Rattle.std.specs.Prelude.{◌≡◌, IfOk};
 
 use am_machine::Cluster;
-use am_office::{Journal, NoMemory};
-use am_office_journal::LoggedJournal;
+use am_office_entries::logged::LoggedJournal;
+use am_office_entries::{Journal, NoMemory};
 use std::alloc::Global;
 use std::fmt;
 use std::fmt::Debug;
@@ -17,7 +17,7 @@ pub struct RunJournal {
 }
 
 impl Model for RunJournal {
-    ghost use Rattle.am_office.specs.declared.Entry.{Entry};
+    ghost use Rattle.am_office_entries.specs.declared.Entry.{Entry};
     ghost use Rattle.std.specs.Prelude.{List};
 
     ghost Value = { List Entry };

@@ -1,11 +1,11 @@
 //! A whole cluster run by the scripts of its scenario: what its threads make at the same time, and then the drain.
 #![tactic(auto)]
 
-ghost use Rattle.am_cluster.specs.Runs.{IsAloneStopped, IsDrainHalted, IsRunDone, IsRunStopped, ObeysRunLaws};
+ghost use Rattle.am_cluster.specs.Runs.{EndsPhase, IsAloneStopped, IsDrainHalted, IsFedRun, IsRunDone, IsRunStopped, ObeysRunLaws};
 ghost use Rattle.am_model_drain.specs.Cut.{IsDrainedWithRoom};
 ghost use Rattle.am_model_drain.specs.Follows.{IsGoodPhase};
 ghost use Rattle.am_cluster_drainer.specs.Stops.{IsDrainStopped};
-ghost use Rattle.am_laws_drain_steps.specs.Runs.{IsWholeRun};
+ghost use Rattle.am_laws_runs.specs.Turns.Runs.{IsWholeRun};
 ghost use Rattle.am_model_scripts.specs.Layout.{layout_of};
 ghost use Rattle.am_model.specs.History.{IsHistory};
 ghost use Rattle.am_model.specs.Merge.{is_ordered};
@@ -16,7 +16,7 @@ ghost use Rattle.am_scenario_types.specs.declared.parts.Network.TheVariants.{Pac
 ghost use Rattle.am_scenario_types.specs.declared.parts.ThreadLine.{ThreadLine};
 ghost use Rattle.am_model_scripts.specs.Links.{KeepsLinks, ReceivesInOrder};
 ghost use Rattle.am_model_scripts.specs.Scripts.{BeginsScripts, calls_of};
-ghost use Rattle.std.specs.Prelude.{◌≡◌, [], true, IfErr, IfOk, OnOk, length, map};
+ghost use Rattle.std.specs.Prelude.{◌≡◌, ◌≢◌, [], true, IfErr, IfOk, OnOk, length, map};
 
 mod journals;
 
@@ -30,7 +30,7 @@ use am_laws_runs::{
 };
 use am_machine::Cluster;
 use am_model::EntryFault;
-use am_office::Part;
+use am_office_entries::Part;
 use am_scenario_types::Scenario;
 use std::alloc::Global;
 use std::thread::Threads;
@@ -156,6 +156,7 @@ pub fn drain_phase(scenario: &Scenario, mut cluster: Cluster) -> Result<Finished
     requires layout { cluster.layout ≡ layout_of scenario.now }
     requires good { IsGoodPhase scenario.now cluster.journal }
     requires none { scenario.now.turns ≡ 0 → cluster.journal ≡ [] }
+    ensures ends { EndsPhase scenario.now cluster.journal result }
     ensures done { IfOk result (λ finished. IsRunDone scenario.now finished.journal) }
     ensures whole { IfOk result (λ finished. IsWholeRun scenario.now finished.journal) }
     ensures obeys { IfOk result (λ finished. ObeysRunLaws scenario.now finished.journal) }
@@ -195,7 +196,8 @@ fn run_without_turns(alloc: Global, scenario: &Scenario) -> Result<Finished, Run
 /// where there are no turns, and what the drain makes of it with no entry meeting a full log. It is a history that follows the
 /// scripts and obeys the laws of runs, and no message that was accepted is pending. LogFull: it is a good phase, and what the drain
 /// makes of it before the first entry that meets a full log, which is the part's, and obeys the laws of runs too. NoMemory: there
-/// is no memory for the run.
+/// is no memory for the run, and where a worker found none nothing is drained.
+#[tactic(auto, using(crate::proofs::Obeying::fed_run))]
 pub fn run<R: Threads + Sync, G: Gate + Sync>(
     rt: &R,
     alloc: Global,
@@ -208,6 +210,7 @@ pub fn run<R: Threads + Sync, G: Gate + Sync>(
     ensures whole { IfOk result (λ finished. IsWholeRun scenario.now finished.journal) }
     ensures obeys { IfOk result (λ finished. ObeysRunLaws scenario.now finished.journal) }
     ensures stopped { IfErr result (IsRunStopped scenario.now) }
+    ensures fed { scenario.now.turns ≢ 0 → IsFedRun scenario.now result }
 {
     if scenario.turns == 0 {
         return run_without_turns(alloc, scenario);

@@ -1,12 +1,12 @@
 -- Seats that are gathered one after the other.
 use Rattle.std.specs.Prelude.{slice_index_or}
 use Rattle.std.proofs.Common.{◌≡◌, ℕ, zero, suc, List, [], ◌∷◌, ◌++◌, refl, ◌∙◌, arith}
-use Rattle.am_office.specs.declared.Entry.{Entry}
+use Rattle.am_office_entries.specs.declared.Entry.{Entry}
 use Rattle.am_places.specs.Rule.{IsOutside, both_known, gathered, nothing}
 use Rattle.am_places.specs.declared.board.Known.{Known}
-use Rattle.am_workers_invariants.specs.Seats.{EndPass}
+use Rattle.am_workers_laws.specs.Invariants.Seats.{EndPass}
 use Rattle.am_workers_laws.proofs.Passes.{both_length}
-use Rattle.am_cluster_ends.specs.Ends.{gathered_all}
+use Rattle.am_cluster_crew.specs.Ends.Ends.{gathered_all}
 
 pub gathered_push : (v : EndPass) (ws : List EndPass) (w : EndPass) → gathered_all v (ws ++ w ∷ []) ≡ gathered (gathered_all v ws) w
 gathered_push v [] w = refl

@@ -10,13 +10,13 @@ use Rattle.am_names.specs.declared.NodeId.{NodeId}
 use Rattle.am_names.specs.declared.Packet.{Packet}
 use Rattle.am_model.specs.Layout.{node_at}
 use Rattle.am_iface.specs.View.{InterfaceView}
-use Rattle.am_machine_index.specs.View.{receipts}
-use Rattle.am_machine_node.specs.declared.NodePart.{NodePart}
+use Rattle.am_machine_journal.specs.Index.View.{receipts}
+use Rattle.am_machine.specs.declared.node.NodePart.{NodePart}
 use Rattle.am_scenario_types.specs.Lists.{ScenarioLists}
 use Rattle.am_scenario_types.specs.Lawful.{IsLawful}
 use Rattle.am_scenario_types.specs.declared.parts.Network.TheVariants as Networks
-use Rattle.am_workers_books.specs.declared.EndBook.{EndBook}
-use Rattle.am_cluster_unite.specs.Teams.{ReceiptsCount}
+use Rattle.am_workers_laws.specs.declared.books.EndBook.{EndBook}
+use Rattle.am_cluster_crew.specs.Uniting.Teams.{ReceiptsCount}
 use Rattle.am_wire.specs.Links.{received}
 use Rattle.am_wire.specs.declared.closing.LinkRecord.{LinkRecord}
 use Rattle.am_wire.specs.declared.receiving.LinkIn.{LinkIn}
@@ -24,13 +24,13 @@ use Rattle.am_wire.specs.declared.sending.LinkOut.{LinkOut}
 use Rattle.am_workers.specs.AtWork.{sent_by, taken_by, taken_on}
 use Rattle.am_cluster_opening.specs.Crews.{AreCrews, ids_of}
 use Rattle.am_cluster_opening.specs.declared.crew.NodeCrew.{NodeCrew}
-use Rattle.am_cluster_ends.specs.Ends.{AreBooksOf, AreLeft, IsPartOfCrew}
+use Rattle.am_cluster_crew.specs.Ends.Ends.{AreBooksOf, AreLeft, IsPartOfCrew}
 use Rattle.am_cluster_crew.specs.Closing.{AreClosed}
 use Rattle.am_cluster_crew.specs.Ending.{AreEnded}
 use Rattle.am_cluster_crew.specs.Parting.{ArePartsOf, IsPartOf, emitted_in}
 use Rattle.am_cluster_crew.specs.declared.ended.AllEnded.{AllEnded}
 use Rattle.am_cluster_crew.specs.declared.ended.NodeEnded.{NodeEnded}
-use Rattle.am_cluster_crew.proofs.Links.{links_are_closed}
+use Rattle.am_cluster_crew.proofs.CrewLinks.{links_are_closed}
 
 abbrev books_in : NodeEnded → List EndBook
 books_in n = n.books.items

@@ -10,7 +10,7 @@ use Rattle.am_model.specs.Layout.{node_at}
 use Rattle.am_scenario_types.specs.Lawful as lawful
 use Rattle.am_scenario_types.specs.Lists.{ScenarioLists}
 use Rattle.am_endpoint_body.specs.declared.settings.EndSettings.{EndSettings}
-use Rattle.am_workers_invariants.specs.Seats.{EndPass, SameSeat}
+use Rattle.am_workers_laws.specs.Invariants.Seats.{EndPass, SameSeat}
 use Rattle.am_wire.specs.Links.{IsLink, SameEnd, SameLink}
 use Rattle.am_wire.specs.declared.receiving.LinkIn.{LinkIn}
 use Rattle.am_wire.specs.declared.sending.LinkOut.{LinkOut}
@@ -21,7 +21,7 @@ use Rattle.am_workers.specs.declared.workers.DriverWorker.{DriverWorker}
 use Rattle.am_cluster_opening.specs.Crews.{AreCrews, AreLinked, AreNumbered, IsCrew, IsSeatOf, ids_of, seats_of, table_of}
 use Rattle.am_cluster_opening.specs.declared.crew.NodeCrew.{NodeCrew}
 use Rattle.am_cluster_crew.specs.Running.{SameCrew, SameDriver, SameInterface, SameThread}
-use Rattle.am_cluster_nodes.proofs.Fresh.{few_threads}
+use Rattle.am_cluster_opening.proofs.Fresh.{few_threads}
 
 -- ---- a crew
 

@@ -5,12 +5,12 @@ use Rattle.std.proofs.Common.{arith}
 use Rattle.atomic_table.specs.Table.{Me}
 use Rattle.am_lemmas.proofs.Lists.{slice_get-push_cases}
 use Rattle.std.proofs.lemmas.List.{length-set}
-use Rattle.am_office.specs.declared.Entry.{Entry}
-use Rattle.am_workers_books.specs.declared.EndBook.{EndBook}
+use Rattle.am_office_entries.specs.declared.Entry.{Entry}
+use Rattle.am_workers_laws.specs.declared.books.EndBook.{EndBook}
 use Rattle.am_places.specs.Rule.{known_at, nothing, with_known}
 use Rattle.am_places.specs.declared.board.Known.{Known}
 use Rattle.am_places.specs.declared.board.Tenure.{Tenure}
-use Rattle.am_workers_invariants.specs.Seats.{EndPass}
+use Rattle.am_workers_laws.specs.Invariants.Seats.{EndPass}
 use Rattle.am_workers_laws.specs.Ended.{ComesTo, IsTakenOut}
 
 set_elsewhere : (xs : List (Known Entry)) (j k : ℕ) (x : Known Entry) → j ≢ k → slice_index_or (slice_set xs j x) k nothing ≡ slice_index_or xs k nothing

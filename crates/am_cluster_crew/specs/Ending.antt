@@ -1,13 +1,13 @@
 -- What is left of the nodes' crews when their phase is over.
 use Rattle.std.specs.Prelude.{◌≡◌, ℕ, ◌+◌, ◌≤◌, Some, List, length, slice_get, vec_capacity}
 use Rattle.std.specs.Global.{Vec}
-use Rattle.am_workers_books.specs.declared.EndBook.{EndBook}
-use Rattle.am_workers_invariants.specs.Seats.{EndPass}
+use Rattle.am_workers_laws.specs.declared.books.EndBook.{EndBook}
+use Rattle.am_workers_laws.specs.Invariants.Seats.{EndPass}
 use Rattle.am_workers_laws.specs.Ended.{IsTakenOut}
 use Rattle.am_wire.specs.declared.receiving.LinkIn.{LinkIn}
 use Rattle.am_wire.specs.declared.sending.LinkOut.{LinkOut}
 use Rattle.am_cluster_opening.specs.declared.crew.NodeCrew.{NodeCrew}
-use Rattle.am_cluster_ends.specs.Ends.{AreBooksOf}
+use Rattle.am_cluster_crew.specs.Ends.Ends.{AreBooksOf}
 use Rattle.am_cluster_crew.specs.declared.ended.AllEnded.{AllEnded}
 use Rattle.am_cluster_crew.specs.declared.ended.Ended.{Ended}
 use Rattle.am_cluster_crew.specs.declared.ended.NodeEnded.{NodeEnded}

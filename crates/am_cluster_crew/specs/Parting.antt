@@ -2,11 +2,11 @@
 use Rattle.std.specs.Prelude.{◌≡◌, ℕ, ◌≤◌, Some, List, length, map, slice_get}
 use Rattle.std.specs.Global.{Vec}
 use Rattle.am_names.specs.declared.Packet.{Packet}
-use Rattle.am_machine_node.specs.Shells.{AreCounts}
-use Rattle.am_machine_node.specs.declared.NodePart.{NodePart}
+use Rattle.am_machine.specs.Node.Shells.{AreCounts}
+use Rattle.am_machine.specs.declared.node.NodePart.{NodePart}
 use Rattle.am_wire.specs.declared.closing.LinkRecord.{LinkRecord}
 use Rattle.am_cluster_crew.specs.declared.ended.NodeEnded.{NodeEnded}
-use Rattle.am_workers_books.specs.Ends.{end_in}
+use Rattle.am_workers_laws.specs.Books.Ends.{end_in}
 
 abbrev pub emitted_in : LinkRecord → Vec Packet
 emitted_in r = r.emitted

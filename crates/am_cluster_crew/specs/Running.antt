@@ -3,12 +3,12 @@ use Rattle.std.specs.Prelude.{◌≡◌, ℕ, ◌<◌, Bool, true, false, ◌||�
 use Rattle.std.specs.List.{list_any}
 use Rattle.am_names.specs.declared.NodeId.{NodeId}
 use Rattle.am_model_parts.specs.Together.{ends_of}
-use Rattle.am_cluster_nodes.specs.Openings.{EndPlaces, table_in}
+use Rattle.am_cluster_opening.specs.Node.Openings.{EndPlaces, table_in}
 use Rattle.am_scenario_types.specs.Lists.{ScenarioLists}
 use Rattle.am_scenario_types.specs.Lawful.{IsLawful}
 use Rattle.am_scenario_types.specs.declared.parts.Network.TheVariants as Networks
 use Rattle.am_model_scripts.specs.Layout.{layout_of}
-use Rattle.am_workers_invariants.specs.Seats.{SameSeat}
+use Rattle.am_workers_laws.specs.Invariants.Seats.{SameSeat}
 use Rattle.am_workers.specs.AtWork.{IsDriverAtWork, IsInterfaceAtWork, IsThreadAtWork, SameIns, SameOuts}
 use Rattle.am_workers.specs.declared.workers.Stop.{Stop}
 use Rattle.am_workers.specs.declared.workers.Stop.TheVariants as Stops

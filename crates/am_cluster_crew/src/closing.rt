@@ -4,7 +4,7 @@ ghost use Rattle.am_cluster_crew.specs.Closing.{AreClosed, AreLinkedEnds, IsLink
 ghost use Rattle.am_wire.specs.declared.sending.LinkOut.{LinkOut};
 ghost use Rattle.std.specs.Prelude.{IfOk};
 
-use am_office::NoMemory;
+use am_office_entries::NoMemory;
 use am_wire::{LinkIn, LinkOut, LinkRecord, close};
 use std::alloc::Global;
 

@@ -4,7 +4,7 @@ use am_iface::Interface;
 use am_names::{NodeId, Packet};
 use am_swap::MemorySwap;
 use am_wire::{LinkIn, LinkOut};
-use am_workers_books::EndBook;
+use am_workers_laws::books::EndBook;
 
 /// A node when its phase is over, but for its links.
 #[derive(Drop)]

@@ -1,26 +1,26 @@
 //! How a node's phase ends: its driver gathers the other seats, and takes the endpoints out.
 
 ghost use Rattle.am_cluster_crew.specs.Ending.{AreEnded, AreTakenOut, HasRoom, IsEndedOf};
-ghost use Rattle.am_cluster_ends.specs.Ends.{gathered_all, pass_of};
+ghost use Rattle.am_cluster_crew.specs.Ends.Ends.{gathered_all, pass_of};
 ghost use Rattle.am_workers_laws.specs.Ended.{ComesTo};
 ghost use Rattle.am_cluster_opening.specs.Crews.{AreCrews, IsCrew};
-ghost use Rattle.am_cluster_nodes.specs.Openings.{table_in};
-ghost use Rattle.am_office.specs.declared.Entry.{Entry};
+ghost use Rattle.am_cluster_opening.specs.Node.Openings.{table_in};
+ghost use Rattle.am_office_entries.specs.declared.Entry.{Entry};
 ghost use Rattle.am_places.specs.Rule.{HasGathered, IsOutside, inside_with, known_at, with_known};
 ghost use Rattle.am_places.specs.declared.board.Tenure.{Tenure};
-ghost use Rattle.am_workers_books.specs.Books.{stands_at};
+ghost use Rattle.am_workers_laws.specs.Books.Books.{stands_at};
 ghost use Rattle.am_workers.specs.declared.workers.ThreadWorker.{ThreadWorker};
-ghost use Rattle.am_workers_invariants.specs.Seats.{IsIdle};
+ghost use Rattle.am_workers_laws.specs.Invariants.Seats.{IsIdle};
 ghost use Rattle.std.specs.Prelude.{◌≡◌, ◌+◌, ◌<◌, ◌≤◌, ℕ, List, [], ◌∷◌, ◌++◌, false, IfOk, All, None, length, map, vec_capacity};
 
 use crate::ended::{AllEnded, Ended, NodeEnded};
-use am_cluster_ends::a_crew_is_gathered;
+use crate::ends::a_crew_is_gathered;
 use am_cluster_opening::NodeCrew;
-use am_office::NoMemory;
+use am_office_entries::NoMemory;
 use am_places::{Places, Seat};
 use am_scenario_types::Scenario;
 use am_workers::{DriverWorker, InterfaceWorker, ThreadWorker};
-use am_workers_books::EndBook;
+use am_workers_laws::books::EndBook;
 use std::alloc::Global;
 
 /// The driver's seat gathers the seats of the threads.

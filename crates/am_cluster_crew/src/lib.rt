@@ -2,27 +2,30 @@
 //! that a drain may go on from.
 #![tactic(auto)]
 
+ghost use Rattle.am_cluster_crew.specs.Fed.{IsFedPhase, IsMadeBy, IsNoneStarved};
 ghost use Rattle.am_cluster_opening.specs.Crews.{AreCrews, AreLinked};
 ghost use Rattle.am_model_drain.specs.Follows.{IsGoodPhase};
 ghost use Rattle.am_model_scripts.specs.Layout.{layout_of};
 ghost use Rattle.am_scenario_types.specs.Lawful.{IsLawful};
 ghost use Rattle.am_scenario_types.specs.declared.parts.Network.TheVariants as Networks;
-ghost use Rattle.std.specs.Prelude.{◌≡◌, [], IfOk};
+ghost use Rattle.std.specs.Prelude.{◌≡◌, [], IfOk, OnOk};
 
 mod closing;
 mod ended;
 mod ending;
+pub mod ends;
 mod parting;
 mod running;
+pub mod uniting;
 
 use crate::ending::end_crews;
+use crate::ends::crews_unite;
 use crate::parting::parts_of;
 use crate::running::{found_no_memory, run_crews};
-use am_cluster_ends::crews_unite;
+use crate::uniting::receipts_are_counted;
 use am_cluster_opening::{NodeCrew, open_crews};
-use am_cluster_unite::receipts_are_counted;
 use am_machine::Cluster;
-use am_office::NoMemory;
+use am_office_entries::NoMemory;
 use am_scenario_types::Scenario;
 pub use am_workers::{Gate, OpenGate};
 use std::alloc::Global;
@@ -30,7 +33,7 @@ use std::thread::Threads;
 
 /// What the crews of all nodes made, put together to a cluster, wherever their workers stopped: its journal is a good phase of the
 /// scenario, and the empty one where there are no turns. `NoMemory` comes where a worker found none, or there is none for the cluster:
-/// what the crews made is dropped then.
+/// what the crews made is dropped then. So where a cluster is answered no worker found none.
 pub fn unite_crews(
     alloc: Global,
     scenario: &Scenario,
@@ -43,6 +46,8 @@ pub fn unite_crews(
     ensures layout { IfOk result (λ cluster. cluster.layout ≡ layout_of scenario.now) }
     ensures good { IfOk result (λ cluster. IsGoodPhase scenario.now cluster.journal) }
     ensures none { IfOk result (λ cluster. scenario.now.turns ≡ 0 → cluster.journal ≡ []) }
+    ensures made { IfOk result (λ cluster. IsMadeBy scenario.now crews.items cluster.journal) }
+    ensures fed { OnOk result (IsNoneStarved crews.items) }
 {
     if found_no_memory(&crews) {
         return Err(NoMemory);
@@ -60,7 +65,8 @@ pub fn unite_crews(
 /// What the threads, interfaces and drivers of a scenario of the packet network make in its number of turns, all at the same time:
 /// a cluster whose journal is a good phase of the scenario, however they interleave, and the empty one where there are no turns. A
 /// worker that meets a full log makes no further turn. `NoMemory` comes where a worker, or what is done before and after, found
-/// none.
+/// none: where a cluster is answered no worker did.
+#[tactic(auto, using(crate::proofs::Fed::fed_phase))]
 pub fn make_phase<R: Threads + Sync, G: Gate + Sync>(
     rt: &R,
     alloc: Global,
@@ -72,6 +78,7 @@ pub fn make_phase<R: Threads + Sync, G: Gate + Sync>(
     ensures layout { IfOk result (λ cluster. cluster.layout ≡ layout_of scenario.now) }
     ensures good { IfOk result (λ cluster. IsGoodPhase scenario.now cluster.journal) }
     ensures none { IfOk result (λ cluster. scenario.now.turns ≡ 0 → cluster.journal ≡ []) }
+    ensures fed { IfOk result (λ cluster. IsFedPhase scenario.now cluster.journal) }
 {
     let mut crews = open_crews(alloc, scenario)?;
     run_crews(rt, alloc, scenario, gate, &mut crews);

@@ -1,11 +1,11 @@
 //! The parts of all nodes when their phase is over.
 
 ghost use Rattle.am_cluster_crew.specs.Closing.{AreClosed, AreLinkedEnds};
-ghost use Rattle.am_workers_books.specs.Ends.{end_in};
+ghost use Rattle.am_workers_laws.specs.Books.Ends.{end_in};
 ghost use Rattle.am_cluster_crew.specs.Parting.{ArePartsOf, IsPartOf, emitted_in};
-ghost use Rattle.am_machine_index.specs.View as journals;
-ghost use Rattle.am_machine_node.specs.Shells.{AreCounts};
-ghost use Rattle.am_machine_node.specs.declared.NodePart.{NodePart as Part};
+ghost use Rattle.am_machine_journal.specs.Index.View as journals;
+ghost use Rattle.am_machine.specs.Node.Shells.{AreCounts};
+ghost use Rattle.am_machine.specs.declared.node.NodePart.{NodePart as Part};
 ghost use Rattle.am_wire.specs.declared.closing.LinkRecord.{LinkRecord};
 ghost use Rattle.std.specs.Global.{Vec};
 ghost use Rattle.std.specs.Prelude.{◌≡◌, ◌<◌, ◌≤◌, ◌∷◌, ◌++◌, [], IfOk, List, OnOk, length, map};
@@ -16,9 +16,9 @@ use am_endpoint::Endpoint;
 use am_iface::Interface;
 use am_machine::NodePart;
 use am_names::{NodeId, Packet};
-use am_office::{Entry, Event, NoMemory};
+use am_office_entries::{Entry, Event, NoMemory};
 use am_wire::LinkRecord;
-use am_workers_books::EndBook;
+use am_workers_laws::books::EndBook;
 use std::alloc::Global;
 
 /// The endpoint of this book.

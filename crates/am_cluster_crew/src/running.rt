@@ -18,7 +18,7 @@ use am_workers::{
     DriverWorker, Gate, InterfaceWorker, Stop, ThreadWorker, work_as_driver, work_as_interface,
     work_as_thread,
 };
-use am_workers_books::EndBook;
+use am_workers_laws::books::EndBook;
 use std::alloc::Global;
 use std::thread;
 use std::thread::{Threads, join_mut};

@@ -1,7 +1,7 @@
 -- What acts one after the other, and one step more of a drain, whole or stopped.
 use Rattle.std.proofs.Common.{◌≡◌, ℕ, suc, List, [], ◌∷◌, ◌++◌, Option, Some, None, Result, Ok, Err, ap, sym, ◌∙◌, subst, refl, append_assoc, append-nil}
 use Rattle.std.specs.Prelude.{◌<◌, option_map}
-use Rattle.am_office.specs.declared.Entry.{Entry}
+use Rattle.am_office_entries.specs.declared.Entry.{Entry}
 use Rattle.am_model.proofs.Each.{each_append}
 use Rattle.am_scenario_types.specs.Lists.{ScenarioLists}
 use Rattle.am_model_drain.specs.declared.Turn.{Turn}

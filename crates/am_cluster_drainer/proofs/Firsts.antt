@@ -4,9 +4,9 @@ use Rattle.std.proofs.Common.{subst, ltb-true, ltb-false, arith}
 use Rattle.std.specs.Prelude.{◌&&◌, not, nat_lt, find, filter_map, fold, is_some, slice_get, option_map, if◌then◌else◌}
 use Rattle.std.specs.List.{cons_option, list_all, range_with_len}
 use Rattle.am_names.specs.declared.NodeId.{NodeId}
-use Rattle.am_office.specs.declared.Entry.{Entry}
-use Rattle.am_office.specs.declared.Event.{Event}
-use Rattle.am_office.specs.declared.Event.TheVariants as Events
+use Rattle.am_office_entries.specs.declared.Entry.{Entry}
+use Rattle.am_office_entries.specs.declared.Event.{Event}
+use Rattle.am_office_entries.specs.declared.Event.TheVariants as Events
 use Rattle.am_model.specs.declared.Queued.{Queued}
 use Rattle.am_model.specs.Endpoint.{front}
 use Rattle.am_model.specs.History.{channel_to, is_bound}

@@ -6,10 +6,10 @@ use Rattle.am_model.proofs.Names.{same_end-is}
 use Rattle.am_names.specs.declared.EndpointId.{EndpointId}
 use Rattle.am_names.specs.declared.NodeId.{NodeId}
 use Rattle.am_names.specs.Names.{same_end, is_request}
-use Rattle.am_office.specs.declared.Actor.TheVariants.{Outside}
-use Rattle.am_office.specs.declared.Call.TheVariants as Calls
-use Rattle.am_office.specs.declared.Event.TheVariants as Events
-use Rattle.am_office.specs.declared.Entry.{Entry}
+use Rattle.am_office_entries.specs.declared.Actor.TheVariants.{Outside}
+use Rattle.am_office_entries.specs.declared.Call.TheVariants as Calls
+use Rattle.am_office_entries.specs.declared.Event.TheVariants as Events
+use Rattle.am_office_entries.specs.declared.Entry.{Entry}
 use Rattle.am_model.specs.Layout.{Layout, EndSetting, has_id, home_by, home}
 use Rattle.am_model.specs.History.{state_of, is_frame_held}
 use Rattle.am_scenario_types.specs.Lists.{ScenarioLists}

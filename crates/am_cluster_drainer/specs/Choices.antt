@@ -3,8 +3,8 @@ use Rattle.std.specs.Prelude.{Bool, ◌&&◌, not, Option, Some, None, List, fin
 use Rattle.am_names.specs.declared.EndpointId.{EndpointId}
 use Rattle.am_names.specs.declared.NodeId.{NodeId}
 use Rattle.am_names.specs.Names.{same_end, same_node}
-use Rattle.am_office.specs.declared.Event.TheVariants as Events
-use Rattle.am_office.specs.declared.Entry.{Entry}
+use Rattle.am_office_entries.specs.declared.Event.TheVariants as Events
+use Rattle.am_office_entries.specs.declared.Entry.{Entry}
 use Rattle.am_model.specs.declared.Queued.{Queued}
 use Rattle.am_model.specs.Endpoint.{is_on_host, is_in_a_frame}
 use Rattle.am_model.specs.Layout.{Layout}

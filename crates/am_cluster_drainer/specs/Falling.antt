@@ -1,6 +1,6 @@
 -- Each turn leaves less of something.
 use Rattle.std.specs.Prelude.{◌≡◌, ℕ, ◌<◌, Some, List}
-use Rattle.am_office.specs.declared.Entry.{Entry}
+use Rattle.am_office_entries.specs.declared.Entry.{Entry}
 use Rattle.am_scenario_types.specs.Lists.{ScenarioLists}
 use Rattle.am_model_drain.specs.declared.Turn.{Turn}
 use Rattle.am_model_drain.specs.Rules.{next_turn}

@@ -11,10 +11,10 @@ ghost use Rattle.am_model_scripts.specs.Standings.{standings};
 ghost use Rattle.std.specs.Prelude.{◌≡◌, ◌<◌, ◌&&◌, true, not, is_none, option_map, length, filter, find, Some, IfSome};
 
 use crate::pages::{apply_if, off_disk};
-use crate::{EndHead, Machine};
+use crate::{Drainable, EndHead};
 use am_model::{EntryFault, Head, is_in_a_frame, is_on_disk, is_on_host};
 use am_names::{EndpointId, NodeId};
-use am_office::Event;
+use am_office_entries::Event;
 
 /// What an endpoint is looked for.
 #[derive(Clone, Copy)]
@@ -60,7 +60,7 @@ fn passes(test: HeadTest, head: EndHead) -> bool
 }
 
 /// The least endpoint that passes.
-pub(crate) fn first_head<M: Machine>(machine: &M, test: HeadTest) -> Option<EndHead>
+pub(crate) fn first_head<M: Drainable>(machine: &M, test: HeadTest) -> Option<EndHead>
     ensures value { result ≡ first_read head_of (passes_head test) (standings (layout_of (M.scenario machine.now)) (M.journal machine.now)) }
     ensures seat { IfSome result (λ head. is_seat (layout_of (M.scenario machine.now)) head.node head.id ≡ true) }
 {
@@ -75,7 +75,7 @@ pub(crate) fn first_head<M: Machine>(machine: &M, test: HeadTest) -> Option<EndH
 }
 
 /// How many open endpoints of a node are on the host.
-fn count_on_host<M: Machine>(machine: &M, node: NodeId) -> usize
+fn count_on_host<M: Drainable>(machine: &M, node: NodeId) -> usize
     ensures { result ≡ length (filter (plan.is_open_on_host node) (standings (layout_of (M.scenario machine.now)) (M.journal machine.now))) }
 {
     let mut found = 0;
@@ -89,7 +89,7 @@ fn count_on_host<M: Machine>(machine: &M, node: NodeId) -> usize
 }
 
 /// The endpoint that goes to disk for a message.
-fn spare<M: Machine>(
+fn spare<M: Drainable>(
     machine: &M,
     node: NodeId,
     source: EndpointId,
@@ -108,7 +108,7 @@ fn spare<M: Machine>(
 }
 
 /// The least free frame of a node.
-fn free_frame<M: Machine>(machine: &M, node: NodeId) -> Option<u8>
+fn free_frame<M: Drainable>(machine: &M, node: NodeId) -> Option<u8>
     ensures value { result ≡ plan.free_frame (layout_of (M.scenario machine.now)) node (standings (layout_of (M.scenario machine.now)) (M.journal machine.now)) }
     ensures small { IfSome result (λ frame. frame < (M.scenario machine.now).frames) }
 {
@@ -129,7 +129,7 @@ fn is_draining(head: Head) -> bool
 }
 
 /// An endpoint in a frame is not draining.
-fn stop_draining<M: Machine>(
+fn stop_draining<M: Drainable>(
     machine: &mut M,
     node: NodeId,
     end: EndpointId,
@@ -143,7 +143,7 @@ fn stop_draining<M: Machine>(
 }
 
 /// An endpoint leaves its frame, and drains before if it doesn't yet.
-fn unload<M: Machine>(machine: &mut M, leaver: EndHead) -> Result<(), EntryFault>
+fn unload<M: Drainable>(machine: &mut M, leaver: EndHead) -> Result<(), EntryFault>
     requires { is_seat (layout_of (M.scenario machine.old)) leaver.node leaver.id ≡ true }
     ensures scenario { M.scenario machine.new ≡ M.scenario machine.old }
     ensures acts { Acts (M.scenario machine.old) result (M.journal machine.old) (unloaded_by (layout_of (M.scenario machine.old)) (Some leaver) (M.journal machine.old)) (M.journal machine.new) }
@@ -157,7 +157,7 @@ fn unload<M: Machine>(machine: &mut M, leaver: EndHead) -> Result<(), EntryFault
 }
 
 /// The least endpoint that may leave its frame for a message does, if there is one.
-fn unload_leaver<M: Machine>(
+fn unload_leaver<M: Drainable>(
     machine: &mut M,
     node: NodeId,
     source: EndpointId,
@@ -173,7 +173,7 @@ fn unload_leaver<M: Machine>(
 }
 
 /// One endpoint goes to disk for a message, where too many are on the host.
-fn page_out_spare<M: Machine>(
+fn page_out_spare<M: Drainable>(
     machine: &mut M,
     node: NodeId,
     source: EndpointId,
@@ -192,7 +192,7 @@ fn page_out_spare<M: Machine>(
 }
 
 /// A frame of the node is emptied for a message, and then one endpoint may go to disk.
-fn empty_frame<M: Machine>(
+fn empty_frame<M: Drainable>(
     machine: &mut M,
     node: NodeId,
     source: EndpointId,
@@ -208,7 +208,7 @@ fn empty_frame<M: Machine>(
 }
 
 /// Whether an endpoint is on the host of its node and no frame there is free.
-fn lacks_frame<M: Machine>(machine: &M, node: NodeId, end: EndpointId) -> bool
+fn lacks_frame<M: Drainable>(machine: &M, node: NodeId, end: EndpointId) -> bool
     requires { is_seat (layout_of (M.scenario machine.now)) node end ≡ true }
     ensures { let layout = layout_of (M.scenario machine.now) in let past = M.journal machine.now in result ≡ (endpoint.is_on_host (state_of layout past end).head.place && is_none (plan.free_frame layout node (standings layout past))) }
 {
@@ -216,7 +216,7 @@ fn lacks_frame<M: Machine>(machine: &M, node: NodeId, end: EndpointId) -> bool
 }
 
 /// There is a free frame for an endpoint on the host.
-fn make_frame<M: Machine>(
+fn make_frame<M: Drainable>(
     machine: &mut M,
     node: NodeId,
     end: EndpointId,
@@ -235,7 +235,7 @@ fn make_frame<M: Machine>(
 }
 
 /// An endpoint on the host goes into the least free frame.
-fn load<M: Machine>(machine: &mut M, node: NodeId, end: EndpointId) -> Result<(), EntryFault>
+fn load<M: Drainable>(machine: &mut M, node: NodeId, end: EndpointId) -> Result<(), EntryFault>
     requires { is_seat (layout_of (M.scenario machine.old)) node end ≡ true }
     ensures scenario { M.scenario machine.new ≡ M.scenario machine.old }
     ensures acts { Acts (M.scenario machine.old) result (M.journal machine.old) (plan.loaded (layout_of (M.scenario machine.old)) node end (M.journal machine.old)) (M.journal machine.new) }
@@ -250,7 +250,7 @@ fn load<M: Machine>(machine: &mut M, node: NodeId, end: EndpointId) -> Result<()
 }
 
 /// An endpoint on the host goes into a frame, which is emptied for it where none is free.
-fn fill_frame<M: Machine>(
+fn fill_frame<M: Drainable>(
     machine: &mut M,
     node: NodeId,
     end: EndpointId,
@@ -268,7 +268,7 @@ fn fill_frame<M: Machine>(
 }
 
 /// An endpoint that isn't on disk goes into a frame, and isn't draining there.
-fn seat<M: Machine>(
+fn seat<M: Drainable>(
     machine: &mut M,
     node: NodeId,
     end: EndpointId,
@@ -286,7 +286,7 @@ fn seat<M: Machine>(
 }
 
 /// An endpoint of a node is ready for a message from `source` to `dest`.
-pub(crate) fn ready<M: Machine>(
+pub(crate) fn ready<M: Drainable>(
     machine: &mut M,
     node: NodeId,
     end: EndpointId,
@@ -311,7 +311,7 @@ fn is_needed(source: EndpointId, dest: EndpointId, head: Head) -> bool
 }
 
 /// The destination of a message is ready too, unless it is closed or is the source.
-pub(crate) fn ready_dest<M: Machine>(
+pub(crate) fn ready_dest<M: Drainable>(
     machine: &mut M,
     source: EndpointId,
     dest: EndpointId,

@@ -14,7 +14,7 @@ ghost use Rattle.am_model_scripts.specs.Layout.{layout_of};
 ghost use Rattle.am_model.specs.History.{channel_to, is_bound, is_frame_held, is_in_range, state_of};
 ghost use Rattle.am_model.specs.Layout as layouts;
 ghost use Rattle.am_names.specs.Names.{is_request};
-ghost use Rattle.am_office.specs.declared.Entry.{Entry};
+ghost use Rattle.am_office_entries.specs.declared.Entry.{Entry};
 ghost use Rattle.am_scenario_types.specs.Lists.{ScenarioLists};
 ghost use Rattle.am_model_scripts.specs.Links.{due};
 ghost use Rattle.am_model_scripts.specs.Standings.{is_missed, standings};
@@ -28,7 +28,7 @@ mod turns;
 pub use am_model::EntryFault;
 use am_model::{Head, Queued};
 use am_names::{EndpointId, NodeId};
-use am_office::Event;
+use am_office_entries::Event;
 use am_scenario_types::ScriptCall;
 pub use rules::{next_turn, receipt};
 
@@ -79,7 +79,7 @@ pub struct LeftCall {
 }
 
 /// A machine of a scenario, by its journal. What it tells should cost no more than the answer.
-pub trait Machine {
+pub trait Drainable {
     ghost scenario: { Self → ScenarioLists };
 
     ghost journal: { Self → List Entry };
@@ -189,7 +189,7 @@ pub trait Machine {
 /// what the drain makes of the one before, and no entry met a full log. LogFull: it is what the drain makes before the first
 /// entry that meets a full log, which is the part's. NotEnabled: before the first entry whose event has this condition
 /// against it. NoMemory: it is a beginning of what the drain makes.
-pub fn drain<M: Machine>(machine: &mut M) -> Result<(), EntryFault>
+pub fn drain<M: Drainable>(machine: &mut M) -> Result<(), EntryFault>
     ensures scenario { M.scenario machine.new ≡ M.scenario machine.old }
     ensures drained { OnOk result (IsDrainedWithRoom (M.scenario machine.old) (M.journal machine.old) (M.journal machine.new)) }
     ensures stopped { IfErr result (λ fault. IsDrainStopped (M.scenario machine.old) (M.journal machine.old) fault (M.journal machine.new)) }

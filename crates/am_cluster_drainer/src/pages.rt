@@ -8,13 +8,13 @@ ghost use Rattle.am_model.specs.History.{is_in_range};
 ghost use Rattle.am_model.specs.Layout as layouts;
 ghost use Rattle.std.specs.Prelude.{◌≡◌, true};
 
-use crate::Machine;
+use crate::Drainable;
 use am_model::{EntryFault, is_on_disk};
 use am_names::{EndpointId, NodeId};
-use am_office::Event;
+use am_office_entries::Event;
 
 /// Makes the entry of an event under a condition.
-pub(crate) fn apply_if<M: Machine>(
+pub(crate) fn apply_if<M: Drainable>(
     machine: &mut M,
     condition: bool,
     event: Event,
@@ -31,7 +31,7 @@ pub(crate) fn apply_if<M: Machine>(
 }
 
 /// Takes an endpoint of a node off the disk.
-pub(crate) fn off_disk<M: Machine>(
+pub(crate) fn off_disk<M: Drainable>(
     machine: &mut M,
     node: NodeId,
     end: EndpointId,
@@ -52,7 +52,7 @@ pub(crate) fn off_disk<M: Machine>(
 }
 
 /// Takes an endpoint off the disk of its node.
-pub(crate) fn off_disk_at_home<M: Machine>(
+pub(crate) fn off_disk_at_home<M: Drainable>(
     machine: &mut M,
     end: EndpointId,
 ) -> Result<(), EntryFault>

@@ -8,15 +8,15 @@ ghost use Rattle.am_model_scripts.specs.Links.{first_some, next_receipt};
 ghost use Rattle.am_model_scripts.specs.Standings.{is_standing_of, standings};
 ghost use Rattle.std.specs.Prelude.{◌≡◌, ◌<◌, ◌||◌, nat_lt, ◌∷◌, [], true, find, option_map, IfSome};
 
-use crate::{EndMail, EndTest, Machine, NodePair};
+use crate::{Drainable, EndMail, EndTest, NodePair};
 use am_model::{Head, Queued};
 use am_model_drain::Turn;
 use am_names::{EndpointId, NodeId};
-use am_office::{Actor, Call, Event};
+use am_office_entries::{Actor, Call, Event};
 
 /// The receipt that is due, at the least node and from the least peer there. None exactly where all that was released on any link
 /// was received.
-pub fn receipt<M: Machine>(machine: &M) -> Option<Turn>
+pub fn receipt<M: Drainable>(machine: &M) -> Option<Turn>
     ensures turn { result ≡ option_map Turn.Once (next_receipt (M.scenario machine.now) (M.journal machine.now)) }
     ensures in_range { IfSome result (λ turn. is_turn_in_range (layout_of (M.scenario machine.now)) turn ≡ true) }
 {
@@ -26,7 +26,7 @@ pub fn receipt<M: Machine>(machine: &M) -> Option<Turn>
 }
 
 /// The time-out of the least bound channel from a node to a peer.
-fn time_out_to<M: Machine>(machine: &M, node: NodeId, peer: NodeId) -> Option<Turn>
+fn time_out_to<M: Drainable>(machine: &M, node: NodeId, peer: NodeId) -> Option<Turn>
     requires node { node.0 < (M.scenario machine.now).nodes }
     requires peer { peer.0 < (M.scenario machine.now).nodes }
     ensures turn { result ≡ rules.time_out_to (M.scenario machine.now) (M.journal machine.now) node peer }
@@ -46,7 +46,7 @@ fn time_out_to<M: Machine>(machine: &M, node: NodeId, peer: NodeId) -> Option<Tu
 }
 
 /// The time-out of the least bound channel.
-fn time_out<M: Machine>(machine: &M) -> Option<Turn>
+fn time_out<M: Drainable>(machine: &M) -> Option<Turn>
     ensures turn { result ≡ rules.next_time_out (M.scenario machine.now) (M.journal machine.now) }
     ensures in_range { IfSome result (λ turn. is_turn_in_range (layout_of (M.scenario machine.now)) turn ≡ true) }
 {
@@ -55,7 +55,7 @@ fn time_out<M: Machine>(machine: &M) -> Option<Turn>
 }
 
 /// The page-in of the least endpoint on disk that is wanted.
-fn page_in<M: Machine>(machine: &M) -> Option<Turn>
+fn page_in<M: Drainable>(machine: &M) -> Option<Turn>
     ensures turn { result ≡ rules.next_page_in (standings (layout_of (M.scenario machine.now)) (M.journal machine.now)) }
     ensures in_range { IfSome result (λ turn. is_turn_in_range (layout_of (M.scenario machine.now)) turn ≡ true) }
 {
@@ -75,7 +75,7 @@ fn is_roomy(head: Head, requests: u8) -> bool
 }
 
 /// Whether an endpoint is closed or has fewer than 16 received requests.
-fn has_room<M: Machine>(machine: &M, end: EndpointId) -> bool
+fn has_room<M: Drainable>(machine: &M, end: EndpointId) -> bool
     requires { rules.next_page_in (standings (layout_of (M.scenario machine.now)) (M.journal machine.now)) ≡ None }
     ensures { result ≡ rules.has_room (find (is_standing_of end) (standings (layout_of (M.scenario machine.now)) (M.journal machine.now))) }
 {
@@ -85,7 +85,7 @@ fn has_room<M: Machine>(machine: &M, end: EndpointId) -> bool
     }
 }
 
-fn finds_room<M: Machine>(machine: &M, front: Option<Queued>) -> bool
+fn finds_room<M: Drainable>(machine: &M, front: Option<Queued>) -> bool
     requires { rules.next_page_in (standings (layout_of (M.scenario machine.now)) (M.journal machine.now)) ≡ None }
     ensures { result ≡ rules.finds_room (standings (layout_of (M.scenario machine.now)) (M.journal machine.now)) front }
 {
@@ -96,7 +96,7 @@ fn finds_room<M: Machine>(machine: &M, front: Option<Queued>) -> bool
 }
 
 /// The least endpoint that passes.
-fn first_mail<M: Machine>(machine: &M, test: EndTest) -> Option<EndMail>
+fn first_mail<M: Drainable>(machine: &M, test: EndTest) -> Option<EndMail>
     requires { rules.next_page_in (standings (layout_of (M.scenario machine.now)) (M.journal machine.now)) ≡ None }
     ensures value { result ≡ option_map mail_of (find (shows test) (standings (layout_of (M.scenario machine.now)) (M.journal machine.now))) }
     ensures seat { IfSome result (λ mail. is_seat (layout_of (M.scenario machine.now)) mail.node mail.id ≡ true) }
@@ -106,7 +106,7 @@ fn first_mail<M: Machine>(machine: &M, test: EndTest) -> Option<EndMail>
 }
 
 /// The least endpoint whose front message goes to an endpoint that is closed or has room for a request.
-fn first_request<M: Machine>(machine: &M) -> Option<EndMail>
+fn first_request<M: Drainable>(machine: &M) -> Option<EndMail>
     requires { rules.next_page_in (standings (layout_of (M.scenario machine.now)) (M.journal machine.now)) ≡ None }
     ensures value { let ends = standings (layout_of (M.scenario machine.now)) (M.journal machine.now) in result ≡ first_read mail_of (sends_request ends) ends }
     ensures seat { IfSome result (λ mail. is_seat (layout_of (M.scenario machine.now)) mail.node mail.id ≡ true) }
@@ -139,7 +139,7 @@ fn send_front(mail: EndMail) -> Option<Turn>
 }
 
 /// The least endpoint with a reply, or else the least with a request that finds room.
-fn sender<M: Machine>(machine: &M) -> Option<EndMail>
+fn sender<M: Drainable>(machine: &M) -> Option<EndMail>
     requires { rules.next_page_in (standings (layout_of (M.scenario machine.now)) (M.journal machine.now)) ≡ None }
     ensures value { result ≡ option_map mail_of (rules.next_sender (standings (layout_of (M.scenario machine.now)) (M.journal machine.now))) }
     ensures seat { IfSome result (λ mail. is_seat (layout_of (M.scenario machine.now)) mail.node mail.id ≡ true) }
@@ -151,7 +151,7 @@ fn sender<M: Machine>(machine: &M) -> Option<EndMail>
 }
 
 /// The send of the front message of the sender.
-fn send<M: Machine>(machine: &M) -> Option<Turn>
+fn send<M: Drainable>(machine: &M) -> Option<Turn>
     requires { rules.next_page_in (standings (layout_of (M.scenario machine.now)) (M.journal machine.now)) ≡ None }
     ensures turn { result ≡ rules.next_send (standings (layout_of (M.scenario machine.now)) (M.journal machine.now)) }
     ensures in_range { IfSome result (λ turn. is_turn_in_range (layout_of (M.scenario machine.now)) turn ≡ true) }
@@ -163,7 +163,7 @@ fn send<M: Machine>(machine: &M) -> Option<Turn>
 }
 
 /// The next call of the thread that has made the fewest, the least among equals.
-fn script<M: Machine>(machine: &M) -> Option<Turn>
+fn script<M: Drainable>(machine: &M) -> Option<Turn>
     ensures turn { result ≡ rules.next_call (M.scenario machine.now) (M.journal machine.now) }
     ensures in_range { IfSome result (λ turn. is_turn_in_range (layout_of (M.scenario machine.now)) turn ≡ true) }
 {
@@ -172,7 +172,7 @@ fn script<M: Machine>(machine: &M) -> Option<Turn>
 }
 
 /// The poll of the least endpoint with something to poll.
-fn poll<M: Machine>(machine: &M) -> Option<Turn>
+fn poll<M: Drainable>(machine: &M) -> Option<Turn>
     requires { rules.next_page_in (standings (layout_of (M.scenario machine.now)) (M.journal machine.now)) ≡ None }
     ensures turn { result ≡ rules.next_poll (standings (layout_of (M.scenario machine.now)) (M.journal machine.now)) }
     ensures in_range { IfSome result (λ turn. is_turn_in_range (layout_of (M.scenario machine.now)) turn ≡ true) }
@@ -188,7 +188,7 @@ fn poll<M: Machine>(machine: &M) -> Option<Turn>
 }
 
 /// The turn of the first rule that applies, where nothing is to be received, timed out or paged in.
-fn quiet_turn<M: Machine>(machine: &M) -> Option<Turn>
+fn quiet_turn<M: Drainable>(machine: &M) -> Option<Turn>
     requires { rules.next_page_in (standings (layout_of (M.scenario machine.now)) (M.journal machine.now)) ≡ None }
     ensures turn { let s = M.scenario machine.now in let past = M.journal machine.now in let ends = standings (layout_of s) past in result ≡ first_some (rules.next_send ends ∷ rules.next_call s past ∷ rules.next_poll ends ∷ []) }
     ensures in_range { IfSome result (λ turn. is_turn_in_range (layout_of (M.scenario machine.now)) turn ≡ true) }
@@ -203,7 +203,7 @@ fn quiet_turn<M: Machine>(machine: &M) -> Option<Turn>
 }
 
 /// The turn of the first rule that applies: receive, time out, page in, send, script, poll. None where nothing is left to be done.
-pub fn next_turn<M: Machine>(machine: &M) -> Option<Turn>
+pub fn next_turn<M: Drainable>(machine: &M) -> Option<Turn>
     ensures turn { result ≡ rules.next_turn (M.scenario machine.now) (M.journal machine.now) }
     ensures in_range { IfSome result (λ turn. is_turn_in_range (layout_of (M.scenario machine.now)) turn ≡ true) }
 {

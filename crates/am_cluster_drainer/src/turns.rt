@@ -7,17 +7,17 @@ ghost use Rattle.am_model_scripts.specs.Layout.{layout_of};
 ghost use Rattle.am_model.specs.History.{is_in_range};
 ghost use Rattle.std.specs.Prelude.{◌≡◌, true};
 
-use crate::Machine;
+use crate::Drainable;
 use crate::frames::{ready, ready_dest};
 use crate::pages::off_disk_at_home;
 use am_model::EntryFault;
 use am_model_drain::Turn;
 use am_names::{EndpointId, Message, NodeId};
-use am_office::{Actor, Event};
+use am_office_entries::{Actor, Event};
 use am_scenario_types::ScriptCall;
 
 /// Sends the front message of an endpoint that is ready, once the destination is.
-fn send_to<M: Machine>(
+fn send_to<M: Drainable>(
     machine: &mut M,
     node: NodeId,
     end: EndpointId,
@@ -34,7 +34,7 @@ fn send_to<M: Machine>(
 }
 
 /// Sends the front message of an endpoint, once the endpoint and the destination are ready.
-fn send<M: Machine>(
+fn send<M: Drainable>(
     machine: &mut M,
     node: NodeId,
     end: EndpointId,
@@ -51,7 +51,7 @@ fn send<M: Machine>(
 }
 
 /// Makes the next call of a thread, once its endpoint is off the disk.
-fn make<M: Machine>(machine: &mut M, call: ScriptCall) -> Result<(), EntryFault>
+fn make<M: Drainable>(machine: &mut M, call: ScriptCall) -> Result<(), EntryFault>
     requires { is_in_range (layout_of (M.scenario machine.old)) (call_event call) ≡ true }
     ensures scenario { M.scenario machine.new ≡ M.scenario machine.old }
     ensures acts { Acts (M.scenario machine.old) result (M.journal machine.old) (after_turn (M.scenario machine.old) (M.journal machine.old) (Turn.Make call)) (M.journal machine.new) }
@@ -67,7 +67,7 @@ fn make<M: Machine>(machine: &mut M, call: ScriptCall) -> Result<(), EntryFault>
 }
 
 /// Does a turn.
-pub(crate) fn do_turn<M: Machine>(machine: &mut M, turn: Turn) -> Result<(), EntryFault>
+pub(crate) fn do_turn<M: Drainable>(machine: &mut M, turn: Turn) -> Result<(), EntryFault>
     requires { is_turn_in_range (layout_of (M.scenario machine.old)) turn ≡ true }
     ensures scenario { M.scenario machine.new ≡ M.scenario machine.old }
     ensures acts { Acts (M.scenario machine.old) result (M.journal machine.old) (after_turn (M.scenario machine.old) (M.journal machine.old) turn) (M.journal machine.new) }

@@ -7,16 +7,16 @@ use Rattle.am_names.specs.declared.NodeId.{NodeId}
 use Rattle.am_model.specs.Layout.{AllAre, node_at}
 use Rattle.am_scenario_types.specs.Lawful as lawful
 use Rattle.am_scenario_types.specs.Lists.{ScenarioLists}
-use Rattle.am_wire_links.specs.Links.{AreLinks, IsOutOpened}
-use Rattle.am_wire_links.specs.declared.Links.{Links}
-use Rattle.am_wire_links.proofs.Lists.{got_low}
+use Rattle.am_wire.specs.AllLinks.Links.{AreLinks, IsOutOpened}
+use Rattle.am_wire.specs.declared.all_links.Links.{Links}
+use Rattle.am_wire.proofs.Lists.{got_low}
 use Rattle.am_wire.specs.declared.receiving.LinkIn.{LinkIn}
 use Rattle.am_wire.specs.declared.sending.LinkOut.{LinkOut}
 use Rattle.am_workers.specs.declared.workers.ThreadWorker.{ThreadWorker}
-use Rattle.am_cluster_nodes.specs.Openings.{AreOpenings, IsOpening, threads_of}
-use Rattle.am_cluster_nodes.specs.declared.opening.Opening.{Opening}
-use Rattle.am_cluster_nodes.proofs.Fresh.{few_threads}
-use Rattle.am_cluster_nodes.proofs.Lists.{AreTaking, each_more, length_map, taking_more, taking_next}
+use Rattle.am_cluster_opening.specs.Node.Openings.{AreOpenings, IsOpening, threads_of}
+use Rattle.am_cluster_opening.specs.declared.node.opening.Opening.{Opening}
+use Rattle.am_cluster_opening.proofs.Fresh.{few_threads}
+use Rattle.am_cluster_opening.proofs.Lists.{AreTaking, each_more, length_map, taking_more, taking_next}
 use Rattle.am_cluster_opening.specs.Crews.{AreNumbered, IsCrew, IsUnused, seats_of}
 use Rattle.am_cluster_opening.specs.Making.{AreNodeLinks}
 use Rattle.am_cluster_opening.specs.declared.crew.NodeCrew.{NodeCrew}

@@ -6,7 +6,7 @@ use Rattle.std.proofs.lemmas.List.{length_push}
 use Rattle.atomic_table.specs.Table.{Me}
 use Rattle.am_lemmas.proofs.Lists.{slice_get-append_left}
 use Rattle.am_names.specs.declared.NodeId.{NodeId}
-use Rattle.am_workers_books.specs.declared.EndBook.{EndBook}
+use Rattle.am_workers_laws.specs.declared.books.EndBook.{EndBook}
 use Rattle.am_model.specs.Layout.{node_at}
 use Rattle.am_scenario_types.specs.declared.parts.ScriptCall.{ScriptCall}
 use Rattle.am_scenario_types.specs.Lawful as lawful
@@ -18,24 +18,24 @@ use Rattle.am_iface.specs.Settings.{AreLawful}
 use Rattle.am_iface.specs.View.{InterfaceView, own}
 use Rattle.am_model_parts.specs.Together.{IsSet}
 use Rattle.am_model_scripts.specs.Follows.{is_thread}
-use Rattle.am_workers_turns.specs.Callers.{IsScript}
-use Rattle.am_workers_turns.specs.declared.choices.Waits.{Waits}
-use Rattle.am_cluster_nodes.proofs.Lists.{all_mapped}
-use Rattle.am_wire_links.specs.Links.{IsOutOpened}
-use Rattle.am_wire_links.proofs.Lists.{got_last, got_low, got_one, got_some}
+use Rattle.am_workers.specs.Turns.Callers.{IsScript}
+use Rattle.am_workers.specs.declared.turns.waits.Waits.{Waits}
+use Rattle.am_cluster_opening.proofs.Lists.{all_mapped}
+use Rattle.am_wire.specs.AllLinks.Links.{IsOutOpened}
+use Rattle.am_wire.proofs.Lists.{got_last, got_low, got_one, got_some}
 use Rattle.am_wire.specs.declared.receiving.LinkIn.{LinkIn}
 use Rattle.am_wire.specs.declared.sending.LinkOut.{LinkOut}
-use Rattle.am_workers_invariants.specs.Seats.{EndPass, Ids}
+use Rattle.am_workers_laws.specs.Invariants.Seats.{EndPass, Ids}
 use Rattle.am_workers.specs.AtWork.{IsDriverAtWork, IsInterfaceAtWork, IsThreadAtWork}
 use Rattle.am_workers.specs.Begins.{IsNewDisk, IsNewSeat, NewDriversAreAtWork, NewInterfacesAreAtWork, NewThreadsAreAtWork}
 use Rattle.am_workers.specs.declared.workers.ThreadWorker.{ThreadWorker}
-use Rattle.am_cluster_nodes.specs.Openings.{EndPlaces, EndSeat, IsFreshSeat, IsOpening, births_of, threads_of}
-use Rattle.am_cluster_nodes.specs.declared.opening.Opening.{Opening}
+use Rattle.am_cluster_opening.specs.Node.Openings.{EndPlaces, EndSeat, IsFreshSeat, IsOpening, births_of, threads_of}
+use Rattle.am_cluster_opening.specs.declared.node.opening.Opening.{Opening}
 use Rattle.am_cluster_opening.specs.Crews.{IsCrew, IsSeatOf, IsUnused}
 use Rattle.am_cluster_opening.specs.Making.{AreNodeLinks, AreThreadsMade, IsThreadMade}
 use Rattle.am_cluster_opening.specs.declared.crew.NodeCrew.{NodeCrew}
 use Rattle.am_cluster_opening.proofs.Scripted.{is_declared, is_script, is_short}
-use Rattle.am_workers_invariants.specs.Begins.{IsOpenIn}
+use Rattle.am_workers_laws.specs.Invariants.Begins.{IsOpenIn}
 
 -- the crew has these
 pub record IsCrewMade (s : ScenarioLists) (o : Opening) (guests : List EndSeat) (inner last : EndSeat) (outs : List LinkOut) (ins : List LinkIn) (c : NodeCrew)

@@ -7,8 +7,8 @@ use Rattle.std.proofs.lemmas.List.Sums.{count_by-le-length, length-filter}
 use Rattle.am_lemmas.proofs.Lists.{Some-slice_get_map}
 use Rattle.am_names.specs.declared.NodeId.{NodeId}
 use Rattle.am_names.specs.Names.{same_node}
-use Rattle.am_office.specs.declared.Actor.TheVariants.{Outside, Thread}
-use Rattle.am_office.specs.declared.Event.TheVariants as Events
+use Rattle.am_office_entries.specs.declared.Actor.TheVariants.{Outside, Thread}
+use Rattle.am_office_entries.specs.declared.Event.TheVariants as Events
 use Rattle.am_model.specs.Layout.{declared}
 use Rattle.am_model.specs.History.{is_in_range, is_call_in_range}
 use Rattle.am_scenario_types.specs.declared.parts.ScriptCall.{ScriptCall}
@@ -20,9 +20,9 @@ use Rattle.am_model_scripts.proofs.Lawful.{event_in_range}
 use Rattle.am_model_scripts.specs.Follows.{is_thread}
 use Rattle.am_model_scripts.specs.Scripts.{is_of_thread, script_of}
 use Rattle.am_model_scripts.proofs.Declared.{thread_below_64, is_on_declared}
-use Rattle.am_workers_turns.specs.Callers.{IsScript}
-use Rattle.am_cluster_nodes.specs.Openings.{threads_of}
-use Rattle.am_cluster_nodes.proofs.Lists.{got_kept}
+use Rattle.am_workers.specs.Turns.Callers.{IsScript}
+use Rattle.am_cluster_opening.specs.Node.Openings.{threads_of}
+use Rattle.am_cluster_opening.proofs.Lists.{got_kept}
 
 -- ---- a thread of the node is declared
 

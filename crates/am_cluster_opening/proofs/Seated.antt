@@ -2,11 +2,11 @@
 use Rattle.std.specs.Prelude.{slice_get}
 use Rattle.std.proofs.Common.{◌≡◌, ⊎_elim, ℕ, ◌+◌, ◌<◌, Some, List, [], ◌∷◌, ◌++◌, length, reverse, refl, sym, ◌∙◌, subst, arith}
 use Rattle.std.proofs.lemmas.List.{length_push}
-use Rattle.am_cluster_nodes.specs.Openings.{EndSeat}
+use Rattle.am_cluster_opening.specs.Node.Openings.{EndSeat}
 use Rattle.am_scenario_types.specs.Lists.{ScenarioLists}
 use Rattle.am_workers.specs.declared.workers.ThreadWorker.{ThreadWorker}
-use Rattle.am_wire_links.proofs.Lists.{got_low, got_one, got_push}
-use Rattle.am_cluster_nodes.proofs.Lists.{AreTaking, taking_begins, taking_ends, taking_more, taking_next}
+use Rattle.am_wire.proofs.Lists.{got_low, got_one, got_push}
+use Rattle.am_cluster_opening.proofs.Lists.{AreTaking, taking_begins, taking_ends, taking_more, taking_next}
 use Rattle.am_cluster_opening.specs.Making.{AreThreadsMade, IsThreadMade}
 
 pub threads_begin : (s : ScenarioLists) (ids : List ℕ) (seats : List EndSeat) → AreThreadsMade s ids seats 0 []

@@ -10,8 +10,8 @@ use Rattle.am_model_scripts.specs.Layout.{layout_of}
 use Rattle.am_wire.specs.Links.{IsLink, emitted, pumped, received}
 use Rattle.am_wire.specs.declared.receiving.LinkIn.{LinkIn}
 use Rattle.am_wire.specs.declared.sending.LinkOut.{LinkOut}
-use Rattle.am_workers_invariants.specs.Seats.{EndPass, Ids}
-use Rattle.am_cluster_nodes.specs.Openings.{AreDeclared, table_in, threads_of}
+use Rattle.am_workers_laws.specs.Invariants.Seats.{EndPass, Ids}
+use Rattle.am_cluster_opening.specs.Node.Openings.{AreDeclared, table_in, threads_of}
 use Rattle.am_workers.specs.AtWork.{IsDriverAtWork, IsInterfaceAtWork, IsThreadAtWork}
 use Rattle.am_workers.specs.declared.workers.ThreadWorker.{ThreadWorker}
 use Rattle.am_cluster_opening.specs.declared.crew.NodeCrew.{NodeCrew}

@@ -1,9 +1,9 @@
 -- Workers as they are made of their seats, and a node's ends of its links as they are made.
 use Rattle.std.specs.Prelude.{◌≡◌, ℕ, Some, List, [], ◌∷◌, ◌++◌, length, slice_get}
-use Rattle.am_cluster_nodes.specs.Openings.{EndSeat}
+use Rattle.am_cluster_opening.specs.Node.Openings.{EndSeat}
 use Rattle.am_names.specs.declared.NodeId.{NodeId}
 use Rattle.am_model.specs.Layout.{node_at}
-use Rattle.am_wire_links.specs.Links.{IsOutOpened}
+use Rattle.am_wire.specs.AllLinks.Links.{IsOutOpened}
 use Rattle.am_scenario_types.specs.Lists.{ScenarioLists}
 use Rattle.am_model_scripts.specs.Scripts.{script_of}
 use Rattle.am_wire.specs.Links.{received}

@@ -3,7 +3,7 @@
 use am_names::NodeId;
 use am_places::Places;
 use am_workers::{DriverWorker, InterfaceWorker, ThreadWorker};
-use am_workers_books::EndBook;
+use am_workers_laws::books::EndBook;
 
 /// The workers of a node, around its places.
 #[derive(Drop)]

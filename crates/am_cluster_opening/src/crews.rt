@@ -1,22 +1,22 @@
 // The crew of a node is made of what its workers begin with and of its links.
 ghost use Rattle.am_cluster_opening.specs.Crews.{AreCrews, AreLinked, AreNumbered, IsCrew, IsUnused};
 ghost use Rattle.am_cluster_opening.specs.Making.{AreNodeLinks};
-ghost use Rattle.am_wire_links.specs.Links.{AreLinks};
+ghost use Rattle.am_wire.specs.AllLinks.Links.{AreLinks};
 ghost use Rattle.am_model.specs.Layout.{AllAre};
-ghost use Rattle.am_cluster_nodes.specs.Openings.{AreOpenings, IsOpening};
+ghost use Rattle.am_cluster_opening.specs.Node.Openings.{AreOpenings, IsOpening};
 ghost use Rattle.am_scenario_types.specs.Lawful.{IsLawful};
 ghost use Rattle.am_scenario_types.specs.declared.parts.Network.TheVariants as Networks;
 ghost use Rattle.std.specs.Prelude.{◌≡◌, ◌<◌, IfOk};
 
 use crate::crew::NodeCrew;
 use crate::making::{Seated, seat_all};
-use am_cluster_nodes::Opening;
+use crate::node::Opening;
 use am_names::NoMemory;
 use am_scenario_types::Scenario;
+use am_wire::all_links::Links;
 use am_wire::{LinkIn, LinkOut};
-use am_wire_links::Links;
+use am_workers::turns::Waits;
 use am_workers::{DriverWorker, InterfaceWorker, new_workers_are_at_work};
-use am_workers_turns::Waits;
 use std::alloc::Global;
 
 /// The crew of a node, whose first worker has this number, with its ends of its links.

@@ -11,13 +11,14 @@ ghost use Rattle.std.specs.Prelude.{◌≡◌, IfOk};
 mod crew;
 mod crews;
 mod making;
+pub mod node;
 
 pub use crate::crew::NodeCrew;
 use crate::crews::assemble;
-use am_cluster_nodes::open_nodes;
+use crate::node::open_nodes;
 pub use am_names::NoMemory;
 use am_scenario_types::Scenario;
-use am_wire_links::open_links;
+use am_wire::all_links::open_links;
 use std::alloc::Global;
 
 /// The crews of a scenario's nodes, in the order of the nodes, before any turn. `NoMemory` comes only for want of memory: all that

@@ -2,12 +2,12 @@
 ghost use Rattle.am_cluster_opening.specs.Making.{AreSeated, AreThreadsMade, IsThreadMade};
 ghost use Rattle.std.specs.Prelude.{◌≡◌, ◌+◌, ◌<◌, IfOk, Some, length, slice_get};
 
-use am_cluster_nodes::calls_of;
+use crate::node::calls_of;
 use am_names::NoMemory;
 use am_places::Seat;
 use am_scenario_types::Scenario;
 use am_workers::ThreadWorker;
-use am_workers_books::EndBook;
+use am_workers_laws::books::EndBook;
 use std::alloc::Global;
 
 /// A thread with its script, of which it made no call.

@@ -7,9 +7,9 @@ use Rattle.std.proofs.lemmas.Option.{slice_get_within}
 use Rattle.am_lemmas.proofs.Lists.{slice_get-Some, slice_get-set_elsewhere}
 use Rattle.atomic_table.specs.Seated.{TableId}
 use Rattle.am_names.specs.declared.NodeId.{NodeId}
-use Rattle.am_cluster_nodes.specs.Openings.{EndPlaces}
+use Rattle.am_cluster_opening.specs.Node.Openings.{EndPlaces}
 use Rattle.am_scenario_types.specs.Lists.{ScenarioLists}
-use Rattle.am_workers_invariants.specs.Seats.{Ids}
+use Rattle.am_workers_laws.specs.Invariants.Seats.{Ids}
 use Rattle.am_workers.specs.AtWork.{IsDriverAtWork, IsThreadAtWork}
 use Rattle.am_workers.specs.declared.workers.ThreadWorker.{ThreadWorker}
 use Rattle.am_workers.specs.declared.workers.InterfaceWorker.{InterfaceWorker}

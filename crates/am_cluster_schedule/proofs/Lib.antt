@@ -1,2 +1,3 @@
+mod Fed
 mod Linked
 mod InTurn

@@ -7,7 +7,7 @@ use Rattle.am_scenario_types.specs.Lists.{ScenarioLists}
 use Rattle.am_wire.specs.Links.{SameEnd, SameLink}
 use Rattle.am_wire.specs.declared.receiving.LinkIn.{LinkIn}
 use Rattle.am_wire.specs.declared.sending.LinkOut.{LinkOut}
-use Rattle.am_workers_invariants.specs.Seats.{Ids}
+use Rattle.am_workers_laws.specs.Invariants.Seats.{Ids}
 use Rattle.am_workers.specs.AtWork.{IsInterfaceAtWork, SameIns, SameOuts}
 use Rattle.am_workers.specs.declared.workers.InterfaceWorker.{InterfaceWorker}
 

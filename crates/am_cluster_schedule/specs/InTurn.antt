@@ -1,7 +1,7 @@
 -- Crews whose workers take their turns one at a time, each as far as its own count says.
 use Rattle.std.specs.Prelude.{◌≡◌, ◌≢◌, ℕ, ◌+◌, Some, List, length, map, slice_get}
 use Rattle.am_model.specs.Layout.{node_at}
-use Rattle.am_cluster_nodes.specs.Openings.{EndPlaces}
+use Rattle.am_cluster_opening.specs.Node.Openings.{EndPlaces}
 use Rattle.am_scenario_types.specs.Lists.{ScenarioLists}
 use Rattle.am_workers.specs.declared.workers.ThreadWorker.{ThreadWorker}
 use Rattle.am_cluster_opening.specs.Crews.{IsCrew}

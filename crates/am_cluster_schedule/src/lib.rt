@@ -2,9 +2,10 @@
 //! and the same seed comes again. The workers and their turns are those of a run at the same time, in another order and nothing else.
 #![tactic(auto)]
 
-ghost use Rattle.am_cluster.specs.Runs.{IsRunDone, IsRunStopped, ObeysRunLaws};
+ghost use Rattle.am_cluster.specs.Runs.{IsFedRun, IsRunDone, IsRunStopped, ObeysRunLaws};
+ghost use Rattle.am_cluster_crew.specs.Fed.{IsFedPhase};
 ghost use Rattle.am_model_drain.specs.Follows.{IsGoodPhase};
-ghost use Rattle.am_laws_drain_steps.specs.Runs.{IsWholeRun};
+ghost use Rattle.am_laws_runs.specs.Turns.Runs.{IsWholeRun};
 ghost use Rattle.am_scenario_types.specs.Lawful.{IsLawful};
 ghost use Rattle.am_scenario_types.specs.declared.parts.Network.TheVariants as Networks;
 ghost use Rattle.am_model_scripts.specs.Layout.{layout_of};
@@ -21,19 +22,21 @@ use am_cluster::{Finished, RunFault, drain_phase};
 use am_cluster_crew::unite_crews;
 use am_cluster_opening::open_crews;
 use am_machine::Cluster;
-use am_office::NoMemory;
+use am_office_entries::NoMemory;
 use am_scenario_types::Scenario;
 use std::alloc::Global;
 
 /// What the workers of a scenario of the packet network make in its number of turns, each turn by itself, in the order of the seed: a
 /// cluster whose journal is a good phase of the scenario, and the empty one where there are no turns. A worker that meets a full log
 /// makes nothing in its further turns. `NoMemory` comes where a worker, or what is done before and after, found none.
+#[tactic(auto, using(crate::proofs::Fed::fed_phase))]
 fn make_phase(alloc: Global, scenario: &Scenario, seed: u64) -> Result<Cluster, NoMemory>
     requires lawful { IsLawful scenario.now }
     requires packet { scenario.now.network ≡ Networks.Packet }
     ensures layout { IfOk result (λ cluster. cluster.layout ≡ layout_of scenario.now) }
     ensures good { IfOk result (λ cluster. IsGoodPhase scenario.now cluster.journal) }
     ensures none { IfOk result (λ cluster. scenario.now.turns ≡ 0 → cluster.journal ≡ []) }
+    ensures fed { IfOk result (λ cluster. IsFedPhase scenario.now cluster.journal) }
 {
     let mut crews = open_crews(alloc, scenario)?;
     let mut made = none_made(alloc, &crews)?;
@@ -46,6 +49,7 @@ fn make_phase(alloc: Global, scenario: &Scenario, seed: u64) -> Result<Cluster, 
 /// scenario gives, and the next turn is that of a worker that the generator draws among those with turns left; and then comes the
 /// drain. What is answered is what a run at the same time may answer: Ok, LogFull and NoMemory are those of `am_cluster::run`. Where
 /// memory suffices, the same scenario and seed give the same journal.
+#[tactic(auto, using(crate::proofs::Fed::fed_run))]
 pub fn run_scheduled(alloc: Global, scenario: &Scenario, seed: u64) -> Result<Finished, RunFault>
     requires lawful { IsLawful scenario.now }
     requires packet { scenario.now.network ≡ Networks.Packet }
@@ -53,6 +57,7 @@ pub fn run_scheduled(alloc: Global, scenario: &Scenario, seed: u64) -> Result<Fi
     ensures whole { IfOk result (λ finished. IsWholeRun scenario.now finished.journal) }
     ensures obeys { IfOk result (λ finished. ObeysRunLaws scenario.now finished.journal) }
     ensures stopped { IfErr result (IsRunStopped scenario.now) }
+    ensures fed { IsFedRun scenario.now result }
 {
     let Ok(cluster) = make_phase(alloc, scenario, seed) else {
         return Err(RunFault::NoMemory);

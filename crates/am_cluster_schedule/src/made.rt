@@ -4,7 +4,7 @@ ghost use Rattle.am_cluster_schedule.specs.InTurn.{AreCounted};
 ghost use Rattle.std.specs.Prelude.{◌≡◌, ◌<◌, IfOk, length, slice_get, slice_set};
 
 use am_cluster_opening::NodeCrew;
-use am_office::NoMemory;
+use am_office_entries::NoMemory;
 use std::alloc::Global;
 
 /// How many turns each worker of a crew has made.

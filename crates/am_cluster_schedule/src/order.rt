@@ -3,7 +3,7 @@
 ghost use Rattle.std.specs.Prelude.{◌<◌, IfSome, length};
 
 use am_cluster_opening::NodeCrew;
-use am_office::NoMemory;
+use am_office_entries::NoMemory;
 use rand_core::utils::NextWord;
 use rand_pcg::Lcg64Xsh32;
 use std::alloc::Global;

@@ -2,7 +2,7 @@
 
 ghost use Rattle.am_cluster_crew.specs.Running.{IsThreadAt, SameCrew};
 ghost use Rattle.am_cluster_opening.specs.Crews.{AreCrews, AreLinked};
-ghost use Rattle.am_cluster_nodes.specs.Openings.{EndPlaces};
+ghost use Rattle.am_cluster_opening.specs.Node.Openings.{EndPlaces};
 ghost use Rattle.am_cluster_schedule.specs.InTurn.{AreCounted, AreInTurn, IsInTurn, IsTurnOfThread};
 ghost use Rattle.am_scenario_types.specs.Lawful.{IsLawful};
 ghost use Rattle.am_scenario_types.specs.declared.parts.Network.TheVariants as Networks;
@@ -15,7 +15,7 @@ use am_cluster_opening::NodeCrew;
 use am_places::Places;
 use am_scenario_types::Scenario;
 use am_workers::{ThreadWorker, turn_as_driver, turn_as_interface, turn_as_thread};
-use am_workers_books::EndBook;
+use am_workers_laws::books::EndBook;
 use std::alloc::Global;
 
 /// The thread at this place makes the turn with this number.

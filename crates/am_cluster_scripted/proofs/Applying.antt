@@ -1,12 +1,12 @@
 -- What an application of an event makes of the journal of a drain.
 use Rattle.std.specs.Prelude.{Result, Ok, Err}
 use Rattle.std.proofs.Common.{◌≡◌, Bor, List, [], ◌∷◌, ◌++◌, map, length, ◌*◌, ◌≤◌, Option, Some, None, refl, sym, ap, ◌∙◌, subst}
-use Rattle.am_office.specs.declared.Condition.{Condition}
-use Rattle.am_office.specs.declared.Part.{Part}
-use Rattle.am_office.specs.declared.Event.{Event}
-use Rattle.am_office.specs.declared.Entry.{Entry}
+use Rattle.am_office_entries.specs.declared.Condition.{Condition}
+use Rattle.am_office_entries.specs.declared.Part.{Part}
+use Rattle.am_office_entries.specs.declared.Event.{Event}
+use Rattle.am_office_entries.specs.declared.Entry.{Entry}
 use Rattle.am_model.specs.Layout.{Layout}
-use Rattle.am_office.specs.Entries.{emitted_of}
+use Rattle.am_office_entries.specs.Entries.{emitted_of}
 use Rattle.am_model.specs.History.{IsHistory, failing}
 use Rattle.am_model.specs.Steps.{LogFull, NotEnabled, full_log, stop, stop_by}
 use Rattle.std.specs.Option.{option_copied}
@@ -24,9 +24,9 @@ use Rattle.am_laws_runs.proofs.Logs.{room_keeps_logs}
 use Rattle.am_laws_runs.proofs.Drained.{runs_are_short}
 use Rattle.am_cluster_scripted.specs.Links.{AreFed, Released}
 use Rattle.am_cluster_scripted.specs.Scripted.{AreParts, fed_by}
-use Rattle.am_cluster_calls.specs.Threads.{Scripted, scripted_of, with_call_if}
+use Rattle.am_cluster_scripted.specs.Calls.Threads.{Scripted, scripted_of, with_call_if}
 use Rattle.am_cluster_scripted.proofs.Growing.{fed_after}
-use Rattle.am_cluster_calls.proofs.Growing.{called_after}
+use Rattle.am_cluster_scripted.proofs.CallsGrowing.{called_after}
 use Rattle.am_model_scripts.specs.Layout.{layout_of}
 use Rattle.am_model_drain.specs.Cut.{MeetsNoFullLog, full_for}
 use Rattle.am_model_drain.specs.Made.{after_event, next_entry}

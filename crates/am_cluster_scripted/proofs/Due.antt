@@ -6,15 +6,15 @@ use Rattle.std.proofs.lemmas.List.Sums.{sum_by-cons}
 use Rattle.std.proofs.lemmas.Option.{slice_get-get_or}
 use Rattle.am_names.specs.declared.NodeId.{NodeId}
 use Rattle.am_names.specs.Names.{same_node}
-use Rattle.am_office.specs.declared.Event.{Event}
-use Rattle.am_office.specs.declared.Event.TheVariants as Events
-use Rattle.am_office.specs.declared.Entry.{Entry}
+use Rattle.am_office_entries.specs.declared.Event.{Event}
+use Rattle.am_office_entries.specs.declared.Event.TheVariants as Events
+use Rattle.am_office_entries.specs.declared.Entry.{Entry}
 use Rattle.am_model.specs.Channels.{emitted}
 use Rattle.am_model.specs.History.{IsHistory}
-use Rattle.am_machine_index.specs.View.{is_receipt, receipts}
+use Rattle.am_machine_journal.specs.Index.View.{is_receipt, receipts}
 use Rattle.am_scenario_types.specs.Lists.{ScenarioLists}
 use Rattle.am_model_scripts.specs.Layout.{layout_of}
-use Rattle.am_laws_drain_steps.specs.Enabled.{DuesAreCounted}
+use Rattle.am_laws_runs.specs.Turns.Enabled.{DuesAreCounted}
 use Rattle.am_model_scripts.specs.Links.{due, number_received, received}
 use Rattle.am_cluster_scripted.specs.Links.{AreFed, Released, nothing, released_of}
 

@@ -6,12 +6,12 @@ use Rattle.std.proofs.Common.{subst, arith, eq-eqb, eqb-true, ⊎_elim}
 use Rattle.std.proofs.lemmas.Bool.{cases_lt, cases_order, eqb-false}
 use Rattle.std.proofs.lemmas.Option.{slice_get_past, slice_get_within, slice_get-get_or}
 use Rattle.am_lemmas.proofs.Lists.{slice_get-map_Some, Some-slice_get_map}
-use Rattle.am_cluster_marks.specs.Places.{IsNextMark, is_marked}
-use Rattle.am_cluster_marks.specs.declared.Marks.{Marks}
+use Rattle.am_bit_set.specs.Places.{IsNextMark, is_marked}
+use Rattle.am_bit_set.specs.declared.BitSet.{BitSet}
 use Rattle.am_names.specs.declared.EndpointId.{EndpointId}
 use Rattle.am_names.specs.Names.{same_end}
-use Rattle.am_office.specs.declared.Entry.{Entry}
-use Rattle.am_office.specs.Entries.{ends_touched, touches}
+use Rattle.am_office_entries.specs.declared.Entry.{Entry}
+use Rattle.am_office_entries.specs.Entries.{ends_touched, touches}
 use Rattle.am_model.specs.Endpoint.{State, front, front_of, is_on_disk}
 use Rattle.am_model.specs.History.{IsHistory, state_of}
 use Rattle.am_model.specs.Layout.{EndSetting, Layout, has_id}
@@ -27,8 +27,8 @@ use Rattle.am_cluster_drainer.specs.Firsts.{IsNext, shows}
 use Rattle.am_cluster_drainer.specs.declared.EndTest.{EndTest}
 use Rattle.am_cluster_drainer.specs.declared.EndTest.TheVariants.{Reply, Front, Arrival}
 use Rattle.am_model_drain.specs.Rules.{next_page_in}
-use Rattle.am_laws_drain_steps.proofs.Away.{away_is_settled}
-use Rattle.am_laws_drain_steps.proofs.Enabled.{of_packets}
+use Rattle.am_laws_runs.proofs.Away.{away_is_settled}
+use Rattle.am_laws_runs.proofs.Enabled.{of_packets}
 use Rattle.am_scenario_types.specs.declared.parts.Network.TheVariants.{Packet}
 use Rattle.am_cluster_scripted.specs.EndMarks.{AreAgain, AreMarked, AreNone, AreOf, HasPlace, IsAgain, MarksEnd, MarksPlace, MarksTouched, is_end, is_touched}
 use Rattle.am_cluster_scripted.specs.EndMarks.{told_arrival, told_at, told_by, told_front, told_missed, told_reply}
@@ -84,7 +84,7 @@ one_place s i j a b ok at to same =
 
 -- ---- marks that are read again
 
-again_alike : (f g : ℕ → Bool) (told : State → Bool) (layout : Layout) (past : List Entry) (old new : Marks) → ((k : ℕ) → f k ≡ g k) →
+again_alike : (f g : ℕ → Bool) (told : State → Bool) (layout : Layout) (past : List Entry) (old new : BitSet) → ((k : ℕ) → f k ≡ g k) →
     IsAgain f told layout past old new → IsAgain g told layout past old new
 again_alike f g told layout past old new same again k =
     again k ∙ ap (λ (b : Bool). if b then told_at told layout past (slice_get layout.ends k) else is_marked old k) (same k)
@@ -99,7 +99,7 @@ all_alike f g layout past old new same again =
       arrivals = again_alike f g told_arrival layout past old.arrivals new.arrivals same again.arrivals;
     }
 
-again_twice : (f g : ℕ → Bool) (told : State → Bool) (layout : Layout) (past : List Entry) (old mid new : Marks) → IsAgain f told layout past old mid →
+again_twice : (f g : ℕ → Bool) (told : State → Bool) (layout : Layout) (past : List Entry) (old mid new : BitSet) → IsAgain f told layout past old mid →
     IsAgain g told layout past mid new → IsAgain (λ (k : ℕ). f k || g k) told layout past old new
 again_twice f g told layout past old mid new first second k =
     second k ∙ ap (λ (b : Bool). if g k then t else b) (first k) ∙ by_tests (f k) (g k)
@@ -132,7 +132,7 @@ none_again layout past m f none =
       arrivals = kept_so told_arrival m.arrivals;
     }
   where
-    kept_so : (told : State → Bool) (marks : Marks) → IsAgain f told layout past marks marks
+    kept_so : (told : State → Bool) (marks : BitSet) → IsAgain f told layout past marks marks
     kept_so told marks k = sym (ap (λ (b : Bool). if b then told_at told layout past (slice_get layout.ends k) else is_marked marks k) (none k))
 
 -- ---- one place
@@ -142,7 +142,7 @@ pub told_here : (told : State → Bool) (layout : Layout) (past : List Entry) (k
     b ≡ told (state_after one) → b ≡ told_at told layout past (slice_get layout.ends k)
 told_here told layout past k one b seen is = is ∙ ap told seen.state ∙ sym (ap (told_at told layout past) seen.setting)
 
-pub set_again : (told : State → Bool) (layout : Layout) (past : List Entry) (place : ℕ) (old new : Marks) (b : Bool) →
+pub set_again : (told : State → Bool) (layout : Layout) (past : List Entry) (place : ℕ) (old new : BitSet) (b : Bool) →
     b ≡ told_at told layout past (slice_get layout.ends place) → ((k : ℕ) → is_marked new k ≡ (if k == place then b else is_marked old k)) →
     IsAgain (λ (k : ℕ). k == place) told layout past old new
 set_again told layout past place old new b is set k = set k ∙ by_test (k == place) refl
@@ -222,7 +222,7 @@ both_touched layout past x a b old mid new is first second =
     (all_twice (λ (k : ℕ). is_end a (slice_get layout.ends k)) (λ (k : ℕ). is_end b (slice_get layout.ends k)) layout past old mid new first second)
 
 -- what the endpoints show after an entry
-marks_last : (told : State → Bool) (layout : Layout) (past : List Entry) (x : Entry) (old new : Marks) → AreOf told layout past old →
+marks_last : (told : State → Bool) (layout : Layout) (past : List Entry) (x : Entry) (old new : BitSet) → AreOf told layout past old →
     IsAgain (λ (k : ℕ). is_touched x (slice_get layout.ends k)) told layout (past ++ x ∷ []) old new → AreOf told layout (past ++ x ∷ []) new
 marks_last told layout past x old new are again k = again k ∙ ap (λ (b : Bool). if is_touched x o then told_at told layout (past ++ x ∷ []) o else b) (are k)
     ∙ by_end o
@@ -253,7 +253,7 @@ marked_last layout past x old new are again =
 -- ---- all of them, place by place
 
 -- the marks of the endpoints below a place, and none from there on
-pub record IsMarkedTo (told : State → Bool) (layout : Layout) (past : List Entry) (n : ℕ) (marks : Marks) : Type 0 where
+pub record IsMarkedTo (told : State → Bool) (layout : Layout) (past : List Entry) (n : ℕ) (marks : BitSet) : Type 0 where
   pub below : (k : ℕ) → k < n → is_marked marks k ≡ told_at told layout past (slice_get layout.ends k)
   pub rest : (k : ℕ) → n ≤ k → is_marked marks k ≡ false
 
@@ -275,10 +275,10 @@ marked_none layout past m none =
       arrivals = so told_arrival m.arrivals none.arrivals;
     }
   where
-    so : (told : State → Bool) (marks : Marks) → ((k : ℕ) → is_marked marks k ≡ false) → IsMarkedTo told layout past 0 marks
+    so : (told : State → Bool) (marks : BitSet) → ((k : ℕ) → is_marked marks k ≡ false) → IsMarkedTo told layout past 0 marks
     so told marks none = record { below = λ k lt. absurd (omega (arith, lt)); rest = λ k le. none k }
 
-one_more : (told : State → Bool) (layout : Layout) (past : List Entry) (n : ℕ) (old new : Marks) → IsMarkedTo told layout past n old →
+one_more : (told : State → Bool) (layout : Layout) (past : List Entry) (n : ℕ) (old new : BitSet) → IsMarkedTo told layout past n old →
     IsAgain (λ (k : ℕ). k == n) told layout past old new → IsMarkedTo told layout past (n + 1) new
 one_more told layout past n old new to again =
     record {
@@ -320,14 +320,14 @@ marked_all layout past n m all to =
       arrivals = so told_arrival m.arrivals to.arrivals;
     }
   where
-    so : (told : State → Bool) (marks : Marks) → IsMarkedTo told layout past n marks → AreOf told layout past marks
+    so : (told : State → Bool) (marks : BitSet) → IsMarkedTo told layout past n marks → AreOf told layout past marks
     so told marks to k =
         ⊎_elim (λ (lt : k < n). to.below k lt) (λ (le : n ≤ k). (to.rest k le
         ∙ sym (ap (told_at told layout past) (slice_get_past layout.ends k (omega (arith, all, le)))))) (cases_lt k n)
 
 -- ---- the next endpoint that shows something
 
-pub next_read : (told : State → Bool) (passes : Standing → Bool) (layout : Layout) (past : List Entry) (marks : Marks) (from : ℕ) (o : Option ℕ) →
+pub next_read : (told : State → Bool) (passes : Standing → Bool) (layout : Layout) (past : List Entry) (marks : BitSet) (from : ℕ) (o : Option ℕ) →
     AreOf told layout past marks → ((k : ℕ) (e : EndSetting) → slice_get layout.ends k ≡ Some e →
     passes (standing_in layout past e) ≡ told (state_of layout past e.id)) → IsNextMark marks from o → IsNext passes (standings layout past) from o
 next_read told passes layout past marks from o are tells next = by_place o next
@@ -384,7 +384,7 @@ tells_shown Reply s e quiet = sym (reply_read s (is_on_disk s.head.place) quiet)
 tells_shown Front s e quiet = front_shown s (is_on_disk s.head.place) quiet
 tells_shown Arrival s e quiet = sym (arrivals_read s (is_on_disk s.head.place) quiet)
 
-pub next_shown : (test : EndTest) (s : ScenarioLists) (past : List Entry) (l : Layout) (marks : Marks) (from : ℕ) (o : Option ℕ) → s.network ≡ Packet →
+pub next_shown : (test : EndTest) (s : ScenarioLists) (past : List Entry) (l : Layout) (marks : BitSet) (from : ℕ) (o : Option ℕ) → s.network ≡ Packet →
     l ≡ layout_of s → IsHistory l past → next_page_in (standings (layout_of s) past) ≡ None → AreOf (told_by test) (layout_of s) past marks →
     IsNextMark marks from o → IsNext (shows test) (standings (layout_of s) past) from o
 next_shown test s past l marks from o packet same history none are next =

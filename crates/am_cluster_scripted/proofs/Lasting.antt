@@ -5,11 +5,11 @@ use Rattle.std.proofs.lemmas.Bool.{eqb-false, le-leb, lt-leb, ltb-false, not-fal
 use Rattle.am_names.specs.declared.EndpointId.{EndpointId}
 use Rattle.am_names.specs.declared.NodeId.{NodeId}
 use Rattle.am_names.specs.declared.Message.{Message}
-use Rattle.am_office.specs.declared.Event.TheVariants as Events
-use Rattle.am_office.specs.declared.Outcome.TheVariants as Out
-use Rattle.am_office.specs.declared.Entry.{Entry}
-use Rattle.am_office.specs.declared.Place.{Place}
-use Rattle.am_office.specs.declared.Place.TheVariants.{Disk}
+use Rattle.am_office_entries.specs.declared.Event.TheVariants as Events
+use Rattle.am_office_entries.specs.declared.Outcome.TheVariants as Out
+use Rattle.am_office_entries.specs.declared.Entry.{Entry}
+use Rattle.am_office_entries.specs.declared.Place.{Place}
+use Rattle.am_office_entries.specs.declared.Place.TheVariants.{Disk}
 use Rattle.am_model.specs.declared.Queued.{Queued}
 use Rattle.am_model.specs.Channels.{Channel, attempt, bound_message, sequence}
 use Rattle.am_model.specs.Changes.{flying_of}
@@ -17,7 +17,7 @@ use Rattle.am_model.specs.Endpoint.{front, is_on_disk, is_resident}
 use Rattle.am_model.specs.History.{bind, bind_to, channel_by, channel_for, channel_to, expire, free_channel, is_answered, is_bound, is_home, sent, state_of}
 use Rattle.am_model.specs.Layout.{Layout, home}
 use Rattle.am_model.proofs.Valid.{fails}
-use Rattle.am_office.specs.declared.Condition.TheVariants as Needs
+use Rattle.am_office_entries.specs.declared.Condition.TheVariants as Needs
 use Rattle.am_model_parts.specs.Interface.{channel_in}
 use Rattle.am_model_parts.proofs.Parts.{attempt_own}
 use Rattle.am_iface.specs.View.{InterfaceView, own}

@@ -9,9 +9,9 @@ use Rattle.am_names.specs.declared.EndpointId.{EndpointId}
 use Rattle.am_names.specs.declared.NodeId.{NodeId}
 use Rattle.am_names.specs.declared.Message.{Message}
 use Rattle.am_names.specs.Names.{is_request, same_node}
-use Rattle.am_office.specs.declared.Entry.{Entry}
-use Rattle.am_office.specs.declared.Place.{Place}
-use Rattle.am_office.specs.declared.Place.TheVariants.{Host, Disk, Frame, Direct}
+use Rattle.am_office_entries.specs.declared.Entry.{Entry}
+use Rattle.am_office_entries.specs.declared.Place.{Place}
+use Rattle.am_office_entries.specs.declared.Place.TheVariants.{Host, Disk, Frame, Direct}
 use Rattle.am_model.specs.declared.Head.{Head}
 use Rattle.am_model.specs.declared.Queued.{Queued}
 use Rattle.am_model.specs.Changes.{has_arrivals, has_queued}
@@ -40,9 +40,9 @@ use Rattle.am_model_scripts.specs.Standings.{Standing, is_missed, standings, sta
 use Rattle.am_model_scripts.proofs.Lists.{found_in, none_all, none_mapped}
 use Rattle.am_model_drain.specs.Rules.{next_page_in, page_in_of}
 use Rattle.am_cluster_drainer.specs.Reads.{head_of, is_seat, mail_of}
-use Rattle.am_laws_drain_steps.specs.Away.{AwayIsSettled, is_settled, is_settled_at}
-use Rattle.am_laws_drain_steps.proofs.Enabled.{IsSeatedSetting, all_seated, of_packets, seat_in_range}
-use Rattle.am_laws_drain_steps.proofs.Calls.{home_seated}
+use Rattle.am_laws_runs.specs.Turns.Away.{AwayIsSettled, is_settled, is_settled_at}
+use Rattle.am_laws_runs.proofs.Enabled.{IsSeatedSetting, all_seated, of_packets, seat_in_range}
+use Rattle.am_laws_runs.proofs.Calls.{home_seated}
 
 -- ---- lists
 

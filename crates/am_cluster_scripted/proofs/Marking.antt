@@ -1,8 +1,8 @@
 -- What the marks say after an event that was applied.
 use Rattle.std.specs.Prelude.{IfSome}
 use Rattle.std.proofs.Common.{◌≡◌, List, [], Option, Some, None, refl, sym, subst}
-use Rattle.am_office.specs.declared.Event.{Event}
-use Rattle.am_office.specs.declared.Entry.{Entry}
+use Rattle.am_office_entries.specs.declared.Event.{Event}
+use Rattle.am_office_entries.specs.declared.Entry.{Entry}
 use Rattle.am_model.specs.History.{MayFollow}
 use Rattle.am_model.proofs.Each.{each_at}
 use Rattle.am_machine.specs.View.{ClusterView}

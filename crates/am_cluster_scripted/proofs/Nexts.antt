@@ -2,13 +2,13 @@
 use Rattle.std.specs.Prelude.{find, option_map, ◌==◌}
 use Rattle.std.specs.List.{list_any}
 use Rattle.std.proofs.Common.{◌≡◌, ℕ, Bool, true, false, cond, ◌||◌, List, [], ◌∷◌, map, Option, Some, refl, ap, ◌∙◌, eqb-true}
-use Rattle.am_office.specs.declared.Entry.{Entry}
+use Rattle.am_office_entries.specs.declared.Entry.{Entry}
 use Rattle.am_scenario_types.specs.declared.parts.ThreadLine.{ThreadLine}
 use Rattle.am_scenario_types.specs.Lists.{ScenarioLists}
 use Rattle.am_model_scripts.specs.Follows.{is_thread}
 use Rattle.am_model_scripts.specs.Scripts.{call_left}
-use Rattle.am_cluster_calls.specs.declared.threads.ThreadScript.{ThreadScript}
-use Rattle.am_cluster_calls.specs.Threads.{Scripted, call_in, call_of, next_in, scripted_in, scripted_of}
+use Rattle.am_cluster_scripted.specs.declared.calls.threads.ThreadScript.{ThreadScript}
+use Rattle.am_cluster_scripted.specs.Calls.Threads.{Scripted, call_in, call_of, next_in, scripted_in, scripted_of}
 
 -- the threads with their scripts are those that are declared
 next_among : (s : ScenarioLists) (past : List Entry) (thread : ℕ) (ts : List ThreadScript) (lines : List ThreadLine) →

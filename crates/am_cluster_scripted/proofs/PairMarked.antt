@@ -7,26 +7,26 @@ use Rattle.std.proofs.lemmas.Bool.{and_parts, cases_lt, eqb-false, lt-ltb, le-lt
 use Rattle.std.proofs.lemmas.List.{append-nil}
 use Rattle.std.proofs.lemmas.List.Elements.{filter_map-append}
 use Rattle.am_lemmas.proofs.Bools.{and_second_fails}
-use Rattle.am_cluster_marks.specs.Places.{IsNextMark, is_marked}
-use Rattle.am_cluster_marks.specs.declared.Marks.{Marks}
+use Rattle.am_bit_set.specs.Places.{IsNextMark, is_marked}
+use Rattle.am_bit_set.specs.declared.BitSet.{BitSet}
 use Rattle.am_names.specs.declared.NodeId.{NodeId}
 use Rattle.am_names.specs.declared.Message.{Message}
 use Rattle.am_names.specs.declared.Packet.{Packet}
 use Rattle.am_names.specs.declared.Packet.TheVariants as Packets
 use Rattle.am_names.specs.declared.Verdict.{Verdict}
-use Rattle.am_office.specs.declared.Event.{Event}
-use Rattle.am_office.specs.declared.Event.TheVariants as Events
-use Rattle.am_office.specs.declared.Outcome.{Outcome}
-use Rattle.am_office.specs.declared.Outcome.TheVariants as Out
-use Rattle.am_office.specs.declared.Entry.{Entry}
-use Rattle.am_office.specs.Entries.{answer_by, answer_packet, emitted_in, emitted_of}
+use Rattle.am_office_entries.specs.declared.Event.{Event}
+use Rattle.am_office_entries.specs.declared.Event.TheVariants as Events
+use Rattle.am_office_entries.specs.declared.Outcome.{Outcome}
+use Rattle.am_office_entries.specs.declared.Outcome.TheVariants as Out
+use Rattle.am_office_entries.specs.declared.Entry.{Entry}
+use Rattle.am_office_entries.specs.Entries.{answer_by, answer_packet, emitted_in, emitted_of}
 use Rattle.am_model.specs.Channels.{Channel, binds, bound_message, emitted, ends_tries, frees, frees_by, same_channel}
 use Rattle.am_model.specs.History.{MayFollow, channel_to, expire, is_bound, is_four_bytes, is_in_range, outcome_of, sent}
 use Rattle.am_model.specs.Layout.{IsLawful, Layout, node_at}
 use Rattle.am_model.specs.Packets.{from_of, receiver_of}
 use Rattle.am_model.specs.Tables.{tries_ended}
 use Rattle.am_model.proofs.Ends.{bound_push}
-use Rattle.am_machine_index.specs.Places.{link}
+use Rattle.am_machine_journal.specs.Index.Places.{link}
 use Rattle.am_machine.proofs.Between.{emits_between}
 use Rattle.am_scenario_types.specs.Lists.{ScenarioLists}
 use Rattle.am_model_scripts.specs.Layout.{layout_of}
@@ -236,7 +236,7 @@ passes_own s passes pair within =
     λ i. (lt-ltb pair.node.0 s.nodes within.node i && lt-ltb pair.peer.0 s.nodes within.peer i) && passes pair.node pair.peer
 
 -- what one pair is read again for, where the others are as they were
-pair_set : (s : ScenarioLists) (passes : NodeId → NodeId → Bool) (node peer : NodeId) (old new : Marks) (k : ℕ) → s.nodes ≤ 16 →
+pair_set : (s : ScenarioLists) (passes : NodeId → NodeId → Bool) (node peer : NodeId) (old new : BitSet) (k : ℕ) → s.nodes ≤ 16 →
     IsWithin s (record { node = node; peer = peer }) → IsPairAgain passes node peer old new →
     ((k ≡ link node peer → ⊥) → is_marked old k ≡ passes_in s passes (pair_at k)) → is_marked new k ≡ passes_in s passes (pair_at k)
 pair_set s passes node peer old new k few within again rest = again k ∙ by_test (k == link node peer) refl
@@ -302,7 +302,7 @@ paired_last s past x old new few ok may are again = by_pair (pair_touched x.even
 
 -- ---- the first pair
 
-pub first_read : (s : ScenarioLists) (passes : NodeId → NodeId → Bool) (marks : Marks) (o : Option ℕ) → s.nodes ≤ 16 → AreOfPairs s passes marks →
+pub first_read : (s : ScenarioLists) (passes : NodeId → NodeId → Bool) (marks : BitSet) (o : Option ℕ) → s.nodes ≤ 16 → AreOfPairs s passes marks →
     IsNextMark marks 0 o → IsFirstPair s passes (option_map pair_at o)
 first_read s passes marks None few are none =
     λ node peer low lower. sym (passes_own s passes (record { node = node; peer = peer }) (record { node = low; peer = lower }))
@@ -334,7 +334,7 @@ first_read s passes marks (Some place) few are found =
 
 -- ---- all pairs, place by place
 
-pub record IsPairedTo (s : ScenarioLists) (passes : NodeId → NodeId → Bool) (n : ℕ) (marks : Marks) : Type 0 where
+pub record IsPairedTo (s : ScenarioLists) (passes : NodeId → NodeId → Bool) (n : ℕ) (marks : BitSet) : Type 0 where
   pub below : (k : ℕ) → k < n → is_marked marks k ≡ passes_in s passes (pair_at k)
   pub rest : (k : ℕ) → n ≤ k → is_marked marks k ≡ false
 
@@ -353,7 +353,7 @@ paired_none s past m due bound =
 below_last : (k n : ℕ) → k < n + 1 → (k ≡ n → ⊥) → k < n
 below_last k n lt apart = ⊎_elim (λ (less : k < n). less) (λ (le : n ≤ k). absurd (apart (omega (arith, lt, le)))) (cases_lt k n)
 
-one_more : (s : ScenarioLists) (passes : NodeId → NodeId → Bool) (n : ℕ) (old new : Marks) → IsPairedTo s passes n old → IsPlaceAgain s passes n old new →
+one_more : (s : ScenarioLists) (passes : NodeId → NodeId → Bool) (n : ℕ) (old new : BitSet) → IsPairedTo s passes n old → IsPlaceAgain s passes n old new →
     IsPairedTo s passes (n + 1) new
 one_more s passes n old new to again =
     record { below = λ k lt. (again k ∙ by_test k lt (k == n) refl); rest = λ k le. (again k ∙ later k le (k == n) refl) }
@@ -374,18 +374,18 @@ paired_more s past n old new to due bound =
 pub paired_all : (s : ScenarioLists) (past : List Entry) (m : PairMarks) → s.nodes ≤ 16 → ArePairedTo s past 256 m → ArePaired s past m
 paired_all s past m few to = record { due = so (has_due s past) m.due to.due; bound = so (has_bound s past) m.bound to.bound }
   where
-    so : (passes : NodeId → NodeId → Bool) (marks : Marks) → IsPairedTo s passes 256 marks → AreOfPairs s passes marks
+    so : (passes : NodeId → NodeId → Bool) (marks : BitSet) → IsPairedTo s passes 256 marks → AreOfPairs s passes marks
     so passes marks to k =
         ⊎_elim (λ (lt : k < 256). to.below k lt)
         (λ (le : 256 ≤ k). (to.rest k le ∙ sym (ap (λ (b : Bool). (b && nat_lt (k % 16) s.nodes) && passes (node_at (k / 16)) (node_at (k % 16)))
         (le-ltb (k / 16) s.nodes (omega (arith, le, few))))))
         (cases_lt k 256)
 
-pub first_none : (s : ScenarioLists) (passes : NodeId → NodeId → Bool) (marks : Marks) → s.nodes ≤ 16 → AreOfPairs s passes marks → IsNextMark marks 0 None →
+pub first_none : (s : ScenarioLists) (passes : NodeId → NodeId → Bool) (marks : BitSet) → s.nodes ≤ 16 → AreOfPairs s passes marks → IsNextMark marks 0 None →
     IsFirstPair s passes None
 first_none s passes marks few are none = first_read s passes marks None few are none
 
-pub first_some : (s : ScenarioLists) (passes : NodeId → NodeId → Bool) (marks : Marks) (place : ℕ) (pair : NodePair) → s.nodes ≤ 16 →
+pub first_some : (s : ScenarioLists) (passes : NodeId → NodeId → Bool) (marks : BitSet) (place : ℕ) (pair : NodePair) → s.nodes ≤ 16 →
     AreOfPairs s passes marks → pair ≡ pair_at place → IsNextMark marks 0 (Some place) → IsFirstPair s passes (Some pair)
 first_some s passes marks place pair few are is found = subst (λ (p : NodePair). IsFirstPair s passes (Some p)) (sym is)
     (first_read s passes marks (Some place) few are found)
@@ -433,6 +433,6 @@ bound_found s past node peer k lt is = sym (ap not (one_bound node peer past 0 s
 
 -- ---- one pair is put
 
-pub pair_put : (passes : NodeId → NodeId → Bool) (node peer : NodeId) (old new : Marks) (place : ℕ) (b : Bool) → place ≡ link node peer → b ≡ passes node peer →
+pub pair_put : (passes : NodeId → NodeId → Bool) (node peer : NodeId) (old new : BitSet) (place : ℕ) (b : Bool) → place ≡ link node peer → b ≡ passes node peer →
     ((k : ℕ) → is_marked new k ≡ (if k == place then b else is_marked old k)) → IsPairAgain passes node peer old new
 pair_put passes node peer old new place b at is put k = put k ∙ (λ i. if k == at i then is i else is_marked old k)

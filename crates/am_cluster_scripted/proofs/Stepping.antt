@@ -4,10 +4,10 @@ use Rattle.std.specs.Borrow.{Bor}
 use Rattle.std.proofs.Common.{◌≡◌, ℕ, ◌+◌, ◌<◌, List, [], ◌∷◌, ◌++◌, length, take, drop, sym, ap, ◌∙◌, subst, arith}
 use Rattle.std.proofs.lemmas.List.{take-append-drop, take_more}
 use Rattle.am_names.specs.declared.Packet.{Packet}
-use Rattle.am_office.specs.declared.Entry.{Entry}
-use Rattle.am_office.specs.Entries.{emitted_of}
-use Rattle.am_office_journal.specs.Behind.{entries_behind}
-use Rattle.am_office_journal.proofs.Entries.{behind_at, behind_next, length_behind}
+use Rattle.am_office_entries.specs.declared.Entry.{Entry}
+use Rattle.am_office_entries.specs.Entries.{emitted_of}
+use Rattle.am_office_entries.specs.Logged.Behind.{entries_behind}
+use Rattle.am_office_entries.proofs.Entries.{behind_at, behind_next, length_behind}
 use Rattle.am_model.specs.History.{IsHistory, MayFollow}
 use Rattle.am_model.specs.Layout.{IsLawful, Layout}
 use Rattle.am_model.proofs.Each.{each_front}

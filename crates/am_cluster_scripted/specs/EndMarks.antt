@@ -1,11 +1,11 @@
 -- What the endpoints of a journal show, and where this was read again.
 use Rattle.std.specs.Prelude.{◌≡◌, ℕ, Bool, false, ◌==◌, ◌&&◌, not, is_some, length, slice_get, Option, Some, None, List, if◌then◌else◌}
-use Rattle.am_cluster_marks.specs.Places.{is_marked}
-use Rattle.am_cluster_marks.specs.declared.Marks.{Marks}
+use Rattle.am_bit_set.specs.Places.{is_marked}
+use Rattle.am_bit_set.specs.declared.BitSet.{BitSet}
 use Rattle.am_names.specs.declared.EndpointId.{EndpointId}
 use Rattle.am_names.specs.Names.{same_end}
-use Rattle.am_office.specs.declared.Entry.{Entry}
-use Rattle.am_office.specs.Entries.{touches}
+use Rattle.am_office_entries.specs.declared.Entry.{Entry}
+use Rattle.am_office_entries.specs.Entries.{touches}
 use Rattle.am_model.specs.Changes.{has_arrivals}
 use Rattle.am_model.specs.Endpoint.{State, front, is_on_disk}
 use Rattle.am_model.specs.History.{state_of}
@@ -44,7 +44,7 @@ abbrev pub told_at : (State → Bool) → Layout → List Entry → Option EndSe
 told_at told layout past None = false
 told_at told layout past (Some e) = told (state_of layout past e.id)
 
-abbrev pub AreOf : (State → Bool) → Layout → List Entry → Marks → Type 0
+abbrev pub AreOf : (State → Bool) → Layout → List Entry → BitSet → Type 0
 AreOf told layout past marks = (k : ℕ) → is_marked marks k ≡ told_at told layout past (slice_get layout.ends k)
 
 pub record AreMarked (layout : Layout) (past : List Entry) (m : EndMarks) : Type 0 where
@@ -62,7 +62,7 @@ pub record AreNone (m : EndMarks) : Type 0 where
 
 -- ---- what is read again
 
-abbrev pub IsAgain : (ℕ → Bool) → (State → Bool) → Layout → List Entry → Marks → Marks → Type 0
+abbrev pub IsAgain : (ℕ → Bool) → (State → Bool) → Layout → List Entry → BitSet → BitSet → Type 0
 IsAgain again told layout past old new = (k : ℕ) → is_marked new k ≡ (if again k then told_at told layout past (slice_get layout.ends k) else is_marked old k)
 
 pub record AreAgain (again : ℕ → Bool) (layout : Layout) (past : List Entry) (old new : EndMarks) : Type 0 where

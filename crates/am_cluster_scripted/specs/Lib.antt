@@ -5,3 +5,4 @@ pub mod Tries
 pub mod Touched
 pub mod EndMarks
 pub mod PairMarks
+pub mod Calls

@@ -1,11 +1,11 @@
 -- What is due and bound between the nodes of a journal, and where this was read again.
 use Rattle.std.specs.Prelude.{◌≡◌, ℕ, ◌/◌, ◌%◌, ◌<◌, Bool, ◌==◌, ◌&&◌, nat_lt, Option, Some, None, List, if◌then◌else◌}
-use Rattle.am_cluster_marks.specs.Places.{is_marked}
-use Rattle.am_cluster_marks.specs.declared.Marks.{Marks}
+use Rattle.am_bit_set.specs.Places.{is_marked}
+use Rattle.am_bit_set.specs.declared.BitSet.{BitSet}
 use Rattle.am_names.specs.declared.NodeId.{NodeId}
-use Rattle.am_office.specs.declared.Entry.{Entry}
+use Rattle.am_office_entries.specs.declared.Entry.{Entry}
 use Rattle.am_model.specs.Layout.{node_at}
-use Rattle.am_machine_index.specs.Places.{link}
+use Rattle.am_machine_journal.specs.Index.Places.{link}
 use Rattle.am_scenario_types.specs.Lists.{ScenarioLists}
 use Rattle.am_cluster_drainer.specs.Firsts.{has_bound, has_due}
 use Rattle.am_cluster_drainer.specs.declared.NodePair.{NodePair}
@@ -20,7 +20,7 @@ abbrev pub passes_in : ScenarioLists → (NodeId → NodeId → Bool) → NodePa
 passes_in s passes pair = (nat_lt pair.node.0 s.nodes && nat_lt pair.peer.0 s.nodes) && passes pair.node pair.peer
 
 -- the marks of the pairs that pass
-abbrev pub AreOfPairs : ScenarioLists → (NodeId → NodeId → Bool) → Marks → Type 0
+abbrev pub AreOfPairs : ScenarioLists → (NodeId → NodeId → Bool) → BitSet → Type 0
 AreOfPairs s passes marks = (k : ℕ) → is_marked marks k ≡ passes_in s passes (pair_at k)
 
 pub record ArePaired (s : ScenarioLists) (past : List Entry) (m : PairMarks) : Type 0 where
@@ -33,16 +33,16 @@ pub record IsWithin (s : ScenarioLists) (pair : NodePair) : Type 0 where
   pub peer : pair.peer.0 < s.nodes
 
 -- the pair at a place is read again
-abbrev pub IsPlaceAgain : ScenarioLists → (NodeId → NodeId → Bool) → ℕ → Marks → Marks → Type 0
+abbrev pub IsPlaceAgain : ScenarioLists → (NodeId → NodeId → Bool) → ℕ → BitSet → BitSet → Type 0
 IsPlaceAgain s passes place old new = (k : ℕ) → is_marked new k ≡ (if k == place then passes_in s passes (pair_at place) else is_marked old k)
 
 -- one pair is read again
-abbrev pub IsPairAgain : (NodeId → NodeId → Bool) → NodeId → NodeId → Marks → Marks → Type 0
+abbrev pub IsPairAgain : (NodeId → NodeId → Bool) → NodeId → NodeId → BitSet → BitSet → Type 0
 IsPairAgain passes node peer old new = (k : ℕ) → is_marked new k ≡ (if k == link node peer then passes node peer else is_marked old k)
 
 -- both ways of a pair are read again for what is due, and its one way for what is bound
 pub record IsReadAgain (s : ScenarioLists) (past : List Entry) (pair : NodePair) (old new : PairMarks) : Type 0 where
-  pub middle : Marks
+  pub middle : BitSet
   pub here : IsPairAgain (has_due s past) pair.node pair.peer old.due middle
   pub there : IsPairAgain (has_due s past) pair.peer pair.node middle new.due
   pub bound : IsPairAgain (has_bound s past) pair.node pair.peer old.bound new.bound

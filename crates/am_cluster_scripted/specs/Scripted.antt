@@ -2,7 +2,7 @@
 use Rattle.std.specs.Prelude.{◌≡◌, ◌+◌, ◌*◌, Option, Some, None, List, map}
 use Rattle.am_names.specs.declared.Packet.{Packet}
 use Rattle.am_names.specs.declared.Way.{Way}
-use Rattle.am_office.specs.declared.Entry.{Entry}
+use Rattle.am_office_entries.specs.declared.Entry.{Entry}
 use Rattle.am_model.specs.Packets.{receiver_of, from_of}
 use Rattle.am_scenario_plan.specs.declared.plan.PlanLine.{PlanLine}
 use Rattle.am_scenario_plan.specs.Shape.{fault_at, number_of}
@@ -15,8 +15,8 @@ use Rattle.am_machine.specs.View.{ClusterView}
 use Rattle.am_cluster_scripted.specs.EndMarks.{AreMarked}
 use Rattle.am_cluster_scripted.specs.PairMarks.{ArePaired}
 use Rattle.am_cluster_scripted.specs.Links.{AreFed, IsSpared, Released, fed_at, released_in}
-use Rattle.am_cluster_calls.specs.Lows.{IsLow}
-use Rattle.am_cluster_calls.specs.Threads.{scripted_in, scripted_of}
+use Rattle.am_cluster_scripted.specs.Calls.Lows.{IsLow}
+use Rattle.am_cluster_scripted.specs.Calls.Threads.{scripted_in, scripted_of}
 use Rattle.am_cluster_scripted.specs.declared.scripted.ScriptedCluster.TheInside.{Inside}
 
 -- a scenario, and the journal that was made of it

@@ -1,12 +1,12 @@
 // The packets that a cluster emits and its links release.
-ghost use Rattle.am_office_journal.specs.Behind.{entries_behind};
+ghost use Rattle.am_office_entries.specs.Logged.Behind.{entries_behind};
 ghost use Rattle.am_cluster_scripted.specs.Links.{AreFed, HasAllRoom, IsSpared, released_in};
 ghost use Rattle.am_cluster_scripted.specs.Scripted.{AreParts, fed_by, fed_on};
 ghost use Rattle.am_names.specs.Packets.{way_of};
 ghost use Rattle.am_model_scripts.specs.Layout.{layout_of};
 ghost use Rattle.am_model.specs.Packets as packets;
 ghost use Rattle.am_model.specs.History.{IsHistory};
-ghost use Rattle.am_office.specs.Entries as does;
+ghost use Rattle.am_office_entries.specs.Entries as does;
 ghost use Rattle.am_scenario_types.specs.Lawful.{IsLawful};
 ghost use Rattle.am_model_scripts.specs.Links.{due};
 ghost use Rattle.std.specs.Prelude.{◌≡◌, ℕ, ◌≤◌, ◌<◌, IfOk, IfSome, OnOk, length, map, option_map};
@@ -15,7 +15,7 @@ use crate::links::{LinkTable, due_at, feed_at, link_place, make_all_room, no_lin
 use crate::plan_index::PlanIndex;
 use am_machine::Cluster;
 use am_names::{NodeId, Way};
-use am_office::{Entry, Event, NoMemory, Outcome, Received};
+use am_office_entries::{Entry, Event, NoMemory, Outcome, Received};
 use am_scenario_types::Scenario;
 use am_wire_release::Stage;
 use std::alloc::Global;

@@ -6,23 +6,23 @@ ghost use Rattle.std.specs.Prelude.{◌≡◌, ◌<◌, Some, length};
 
 use crate::reads::{has_arrivals_of, has_front_of, has_reply_of, is_missed};
 use crate::touched::{Touched, ends_touched};
-use am_cluster_marks::Marks;
+use am_bit_set::BitSet;
 use am_machine::Cluster;
 use am_names::EndpointId;
-use am_office::Entry;
+use am_office_entries::Entry;
 use am_scenario_types::{EndLine, Scenario};
 
 /// The places of the endpoints that show something.
 #[derive(Drop)]
 pub(crate) struct EndMarks {
     /// Those that are wanted and on disk.
-    pub(crate) missed: Marks,
+    pub(crate) missed: BitSet,
     /// Those off disk that have a reply queued.
-    pub(crate) replies: Marks,
+    pub(crate) replies: BitSet,
     /// Those off disk that have a message to send.
-    pub(crate) fronts: Marks,
+    pub(crate) fronts: BitSet,
     /// Those off disk that have something to poll.
-    pub(crate) arrivals: Marks,
+    pub(crate) arrivals: BitSet,
 }
 
 /// No endpoint shows anything.
@@ -30,10 +30,10 @@ fn no_ends() -> EndMarks
     ensures { AreNone result }
 {
     EndMarks {
-        missed: Marks::new(),
-        replies: Marks::new(),
-        fronts: Marks::new(),
-        arrivals: Marks::new(),
+        missed: BitSet::new(),
+        replies: BitSet::new(),
+        fronts: BitSet::new(),
+        arrivals: BitSet::new(),
     }
 }
 

@@ -1,6 +1,6 @@
 // What a drain finds first: from the marks, and not from a look at each endpoint, link and channel.
 ghost use Rattle.am_model_drain.specs.Rules.{next_page_in};
-ghost use Rattle.am_laws_drain_steps.specs.Work.{work};
+ghost use Rattle.am_laws_runs.specs.Turns.Work.{work};
 ghost use Rattle.am_cluster_drainer.specs.Falling.{TurnFalls};
 ghost use Rattle.am_cluster_drainer.specs.Firsts.{IsFirstPair, IsNext, has_bound, has_due, shows};
 ghost use Rattle.am_cluster_scripted.specs.EndMarks.{AreMarked};
@@ -14,8 +14,8 @@ ghost use Rattle.std.specs.Prelude.{◌≡◌, ◌≤◌, Bool, None};
 
 use crate::end_marks::EndMarks;
 use crate::pair_marks::{PairMarks, pair_at};
+use am_bit_set::BitSet;
 use am_cluster_drainer::{EndTest, NodePair};
-use am_cluster_marks::Marks;
 use am_machine::Cluster;
 use am_scenario_types::Scenario;
 
@@ -54,7 +54,7 @@ pub(crate) fn next_end(
 }
 
 /// The pair at the least place, by the node and then by the peer.
-fn first_pair(marks: &Marks) -> Option<NodePair>
+fn first_pair(marks: &BitSet) -> Option<NodePair>
     ensures { (s : ScenarioLists) (passes : NodeId → NodeId → Bool) → s.nodes ≤ 16 → AreOfPairs s passes marks.now → IsFirstPair s passes result }
 {
     match marks.next(0) {

@@ -4,7 +4,7 @@ ghost use Rattle.am_cluster_scripted.specs.Links.{HasAllRoom, HasSpare, HasSpare
 ghost use Rattle.std.specs.Prelude.{◌≡◌, ℕ, ◌+◌, ◌*◌, ◌<◌, ◌^◌, All, IfOk, OnOk, length, map, slice_get, slice_index_or, vec_len};
 
 use am_names::NodeId;
-use am_office::NoMemory;
+use am_office_entries::NoMemory;
 use am_scenario_types::LinkFault;
 use am_wire_release::Stage;
 use std::alloc::Global;

@@ -4,18 +4,18 @@ ghost use Rattle.am_cluster_scripted.specs.PairMarks.{ArePaired, ArePairsAgain, 
 ghost use Rattle.am_cluster_scripted.specs.Scripted.{AreParts};
 ghost use Rattle.am_cluster_scripted.specs.Touched.{pair_touched};
 ghost use Rattle.am_cluster_drainer.specs.Firsts.{has_bound, has_due};
-ghost use Rattle.am_cluster_marks.specs.Places.{is_marked};
+ghost use Rattle.am_bit_set.specs.Places.{is_marked};
 ghost use Rattle.std.specs.Prelude.{◌≡◌, ◌<◌, ℕ, IfSome, false, map};
 
 use crate::emissions::due_on;
 use crate::links::link_place;
 use crate::looks::has_bound;
 use crate::touched::pair_touched;
+use am_bit_set::BitSet;
 use am_cluster_drainer::NodePair;
-use am_cluster_marks::Marks;
 use am_machine::Cluster;
 use am_names::NodeId;
-use am_office::Entry;
+use am_office_entries::Entry;
 use am_scenario_types::Scenario;
 use am_wire_release::Stage;
 
@@ -23,9 +23,9 @@ use am_wire_release::Stage;
 #[derive(Drop)]
 pub(crate) struct PairMarks {
     /// Something is due on the link from the peer to the node.
-    pub(crate) due: Marks,
+    pub(crate) due: BitSet,
     /// A channel from the node to the peer is bound.
-    pub(crate) bound: Marks,
+    pub(crate) bound: BitSet,
 }
 
 /// The pair at a place, sixteen to a node.
@@ -177,8 +177,8 @@ fn no_pairs() -> PairMarks
     ensures bound { (k : ℕ) → is_marked result.bound k ≡ false }
 {
     PairMarks {
-        due: Marks::new(),
-        bound: Marks::new(),
+        due: BitSet::new(),
+        bound: BitSet::new(),
     }
 }
 

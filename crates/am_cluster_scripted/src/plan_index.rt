@@ -6,7 +6,7 @@ ghost use Rattle.std.specs.Prelude.{◌≡◌, ◌<◌, List, [], ◌∷◌, IfO
 
 use crate::links::link_place;
 use am_names::NodeId;
-use am_office::NoMemory;
+use am_office_entries::NoMemory;
 use am_scenario_types::{LinkFault, PlanLine};
 use am_wire_release::LinkFaults;
 use std::alloc::Global;

@@ -7,9 +7,9 @@ ghost use Rattle.am_model.specs.History.{IsHistory, is_in_range};
 ghost use Rattle.am_model.specs.Merge.{is_ordered};
 ghost use Rattle.am_cluster_scripted.specs.Scripted.{AreParts, cluster_of};
 ghost use Rattle.am_cluster_scripted.specs.Tries.{IsLastIfMade};
-ghost use Rattle.am_cluster_calls.specs.Threads.{scripted_in, scripted_of};
+ghost use Rattle.am_cluster_scripted.specs.Calls.Threads.{scripted_in, scripted_of};
 ghost use Rattle.am_model_drain.specs.Cut.{IsDrainedWithRoom};
-ghost use Rattle.am_laws_drain_steps.specs.Work.{work};
+ghost use Rattle.am_laws_runs.specs.Turns.Work.{work};
 ghost use Rattle.am_cluster_drainer.specs.Stops.{IsDrainStopped};
 ghost use Rattle.am_model_scripts.specs.Layout.{layout_of};
 ghost use Rattle.am_model.specs.PostOffice.{PostOffice};
@@ -19,6 +19,9 @@ ghost use Rattle.am_model_scripts.specs.Follows.{is_thread};
 ghost use Rattle.am_model_scripts.specs.Scripts.{call_left};
 ghost use Rattle.std.specs.Prelude.{◌≡◌, ◌≤◌, ◌*◌, [], IfErr, IfOk, OnOk, length, map, true};
 
+use crate::calls::{
+    LowMark, ThreadScript, all_scripts, count_event, fewest_from, low_after, next_call, no_low,
+};
 use crate::emissions::{due_on, feed_entry};
 use crate::end_marks::{EndMarks, all_shown, mark_touched};
 use crate::firsts::{first_bound, first_due, first_missed, next_end, turn_falls};
@@ -27,15 +30,12 @@ use crate::looks::{has_bound, head_at, head_by, home, is_frame_held, mail_at, re
 use crate::pair_marks::{PairMarks, all_pairs, mark_pair};
 use crate::plan_index::PlanIndex;
 use crate::tries::is_last;
-use am_cluster_calls::{
-    LowMark, ThreadScript, all_scripts, count_event, fewest_from, low_after, next_call, no_low,
-};
-use am_cluster_drainer::{EndHead, EndMail, EndTest, LeftCall, Machine, NodePair};
+use am_cluster_drainer::{Drainable, EndHead, EndMail, EndTest, LeftCall, NodePair};
 use am_machine::Cluster;
 use am_model::{EntryFault, Head};
 use am_names::{EndpointId, NodeId};
-use am_office::{Entry, Event, NoMemory};
-use am_office_journal::LoggedJournal;
+use am_office_entries::logged::LoggedJournal;
+use am_office_entries::{Entry, Event, NoMemory};
 use am_scenario_types::{Scenario, ScriptCall};
 use core::mem::replace_with;
 use std::alloc::Global;
@@ -302,7 +302,7 @@ pub(crate) fn drain_in_place<'a>(cluster: &mut Cluster, beside: Beside<'a>) -> D
     replace_with(cluster, beside, drain_owned)
 }
 
-impl<'a> Machine for ScriptedCluster<'a> {
+impl<'a> Drainable for ScriptedCluster<'a> {
     ghost scenario = { λ m. m.scenario };
 
     ghost journal = { λ m. m.journal };

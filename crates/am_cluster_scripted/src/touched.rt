@@ -1,11 +1,11 @@
 // What an entry touches: the endpoints, and the pair of nodes whose channels and links it may change.
-ghost use Rattle.am_office.specs.Entries as does;
+ghost use Rattle.am_office_entries.specs.Entries as does;
 ghost use Rattle.am_cluster_scripted.specs.Touched.{both, listed, pair_touched, touched_by_receipt};
 ghost use Rattle.std.specs.Prelude.{◌≡◌};
 
 use am_cluster_drainer::NodePair;
 use am_names::EndpointId;
-use am_office::{Entry, Event, Outcome, Received};
+use am_office_entries::{Entry, Event, Outcome, Received};
 
 /// The endpoints that an entry touches, two at the most.
 pub(crate) struct Touched {

@@ -2,7 +2,7 @@
 ghost use Rattle.am_model_scripts.specs.Layout.{layout_of};
 ghost use Rattle.am_model.specs.History.{is_in_range};
 ghost use Rattle.am_model.specs.Layout as layouts;
-ghost use Rattle.am_office.specs.declared.Event.TheVariants as Events;
+ghost use Rattle.am_office_entries.specs.declared.Event.TheVariants as Events;
 ghost use Rattle.am_model_scripts.specs.Follows as follows;
 ghost use Rattle.am_cluster_scripted.specs.Scripted.{AreParts};
 ghost use Rattle.am_cluster_scripted.specs.Tries.{IsLastIfMade};
@@ -12,7 +12,7 @@ use crate::reads::front_of;
 use am_machine::Cluster;
 use am_model::Queued;
 use am_names::{EndpointId, NodeId};
-use am_office::Event;
+use am_office_entries::Event;
 use am_scenario_types::Scenario;
 
 /// Whether a message has bounced as often as it may.

@@ -3,8 +3,8 @@
 use crate::gates::{Hold, HoldingGate};
 use crate::phases::hold;
 use am_cluster::run;
-use am_office::{Entry, NoMemory};
-use am_office_lines::entry_line;
+use am_office_entries::{Entry, NoMemory};
+use am_office_text::entry_lines::entry_line;
 use am_scenario::{Form, read};
 use std::alloc::Global;
 use std::test::Fail;

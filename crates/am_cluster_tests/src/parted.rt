@@ -4,7 +4,7 @@ ghost use Rattle.am_model_drain.specs.Cut.{IsDrainedWithRoom};
 ghost use Rattle.am_model_drain.specs.Follows.{IsGoodPhase};
 ghost use Rattle.am_model_scripts.specs.Layout.{layout_of};
 ghost use Rattle.am_model.specs.Layout.{AllAre};
-ghost use Rattle.am_office.specs.declared.Entry.{Entry as Made};
+ghost use Rattle.am_office_entries.specs.declared.Entry.{Entry as Made};
 ghost use Rattle.am_scenario_types.specs.Lawful.{IsLawful};
 ghost use Rattle.am_scenario_types.specs.declared.parts.Network.TheVariants.{Packet};
 ghost use Rattle.am_model_scripts.specs.Links.{ReceivesInOrder};
@@ -12,7 +12,7 @@ ghost use Rattle.std.specs.Prelude.{◌≡◌, ◌≤◌, ◌^◌, IfSome, IsTru
 
 use am_cluster::{calls_made, drain};
 use am_machine::Cluster;
-use am_office::{Entry, Journal};
+use am_office_entries::{Entry, Journal};
 use am_scenario::Scenario;
 use std::alloc::Global;
 

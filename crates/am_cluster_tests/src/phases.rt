@@ -5,8 +5,8 @@ use crate::gates::{Hold, HoldingGate, Moment, StepGate};
 use crate::workloads::workload;
 use am_cluster::{OpenGate, RunJournal, run};
 use am_cluster_crew::make_phase;
-use am_office::{Entry, accepted_of};
-use am_office_journal::LoggedJournal;
+use am_office_entries::logged::LoggedJournal;
+use am_office_entries::{Entry, Event, accepted_of};
 use am_office_report::report;
 use am_scenario::{Form, read};
 use std::alloc::Global;
@@ -33,6 +33,11 @@ const ONE_THREAD: &str =
 const FIRST_FIVE: &str =
     "t0 handler 1 1 note -> ok\nt0 map 0 0 1 7 1 -> ok\nt0 request 0 0 1 9 0 0 0 -> ok 0.1\n\
     d0 load 0 0\ni0 bind 0 -> sent 0.1 0 0 1 0 1\n";
+
+/// A thread whose request goes from an endpoint of its node to another one over a link, with turns enough for it to come there.
+const ONE_REQUEST: &str =
+    "am2 1\nnetwork packet\nnodes 1\nturns 200\nendpoint 0 0 5\nendpoint 1 0 7\nthread 0 0\n\
+    t0 handler 1 1 note\nt0 map 0 0 1 7 1\nt0 request 0 0 1 9 0 0 0\n";
 
 /// A worker is held in its turn until another has come to one of its own.
 pub const fn hold(worker: u32, turn: u32, other: u32, its_turn: u32) -> Hold {
@@ -118,5 +123,27 @@ fn most_entries_are_made_in_the_phase(rt: HostRuntime) -> Result<(), Fail> {
     let all = finished.journal.logged(rt.alloc())?.entries().len();
     assert!(rt; by_workers > all / 2);
     assert!(rt; tells_each_fate(rt.alloc(), &finished.journal)?);
+    Ok(())
+}
+
+/// Whether an entry is a receipt of a packet.
+fn is_receipt(entry: &Entry) -> bool {
+    matches!(entry.event, Event::Receive { .. })
+}
+
+/// What an interface emits on a link comes to the one at its other end before the drain.
+#[test]
+fn a_packet_is_received_in_the_phase(rt: HostRuntime) -> Result<(), Fail> {
+    let scenario = read(rt.alloc(), Form::Run, ONE_REQUEST.as_bytes())?;
+    let gate = StepGate::new(&rt, 3);
+    let phase = make_phase(&rt, rt.alloc(), &scenario, &gate)?;
+    let journal = phase.journal(rt.alloc())?;
+    let mut received = 0usize;
+    for entry in journal.entries() {
+        if is_receipt(entry) {
+            received = received.saturating_add(1);
+        }
+    }
+    assert!(rt; received > 0);
     Ok(())
 }

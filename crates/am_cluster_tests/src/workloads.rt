@@ -6,7 +6,7 @@ ghost use Rattle.am_scenario_types.specs.declared.parts.ThreadLine.{ThreadLine};
 ghost use Rattle.am_model_scripts.specs.Scripts.{calls_of};
 ghost use Rattle.std.specs.Prelude.{◌≡◌, ◌≤◌, [], IfOk, length, map};
 
-use am_office::NoMemory;
+use am_office_entries::NoMemory;
 use am_scenario::{Scenario, generate};
 use std::alloc::{AllocError, Global};
 

@@ -1,6 +1,4 @@
-pub mod Found
-pub mod Frames
-pub mod Enabled
-mod Nothing
-mod Views
-pub mod Chosen
+pub mod Making
+pub mod Looking
+pub mod Moving
+pub mod Turning

@@ -3,10 +3,10 @@ use Rattle.std.specs.Prelude.{Result, Ok, Err, is_ok}
 use Rattle.std.proofs.Common.{◌≡◌, ◌⊎◌, ⊎_elim, ℕ, Bool, true, false, List, Option, Some, None, refl, sym, ap, ◌∙◌, subst, if◌then◌else◌}
 use Rattle.am_names.specs.declared.EndpointId.{EndpointId}
 use Rattle.am_names.specs.declared.NoMemory.{NoMemory}
-use Rattle.am_office.specs.declared.Event.{Event}
-use Rattle.am_office.specs.declared.Event.TheVariants as Events
-use Rattle.am_office.specs.declared.Outcome.{Outcome}
-use Rattle.am_office.specs.declared.Entry.{Entry}
+use Rattle.am_office_entries.specs.declared.Event.{Event}
+use Rattle.am_office_entries.specs.declared.Event.TheVariants as Events
+use Rattle.am_office_entries.specs.declared.Outcome.{Outcome}
+use Rattle.am_office_entries.specs.declared.Entry.{Entry}
 use Rattle.am_model.specs.Tables.{page_ended}
 use Rattle.am_swap_device.specs.Causes.{Device, FailsAsTold, Holding, HoldsSame, IsCauseOf, IsCaused, IsCounted, Writes, device_after, fails_after, fault_of, held_with}
 use Rattle.am_swap_device.specs.declared.swap.SwapFault.{SwapFault}

@@ -1,6 +1,6 @@
 -- An endpoint by its settings and its log.
 use Rattle.std.specs.Prelude.{List}
-use Rattle.am_office.specs.declared.Entry.{Entry}
+use Rattle.am_office_entries.specs.declared.Entry.{Entry}
 use Rattle.am_model.specs.Endpoint.{State}
 use Rattle.am_endpoint_body.specs.declared.settings.EndSettings.{EndSettings}
 use Rattle.am_endpoint.specs.View.{EndpointView, state_by}

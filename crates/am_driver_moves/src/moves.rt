@@ -9,7 +9,7 @@ ghost use Rattle.std.specs.Prelude.{◌≡◌, ◌<◌, ◌∷◌, ◌++◌, [],
 
 use crate::pages::page;
 use am_endpoint::Endpoint;
-use am_office::{Entry, Event, NoMemory, Outcome};
+use am_office_entries::{Entry, Event, NoMemory, Outcome};
 use am_swap::{Look, MemorySwap};
 use std::alloc::Global;
 

@@ -9,12 +9,12 @@ ghost use Rattle.am_driver_moves.specs.Moves.{CanMoveBy};
 ghost use Rattle.am_driver_moves.specs.Pages.{CanPageIn, CanPageOut, HoldsImage, is_page};
 ghost use Rattle.am_model.specs.Tables.{page_ended};
 ghost use Rattle.am_model.specs.Endpoint.{is_on_host};
-ghost use Rattle.am_office.specs.declared.Event.TheVariants as Events;
+ghost use Rattle.am_office_entries.specs.declared.Event.TheVariants as Events;
 ghost use Rattle.std.specs.Prelude.{◌≡◌, ◌<◌, [], IfOk, IsSome, None, Some, length, true};
 
 use am_endpoint::{Body, Endpoint};
 use am_names::{EndpointId, NodeId};
-use am_office::{Entry, Event, NoMemory, Outcome};
+use am_office_entries::{Entry, Event, NoMemory, Outcome};
 use am_swap::{Look, Swap, SwapFault, decode, encode};
 use std::alloc::Global;
 

@@ -3,8 +3,8 @@ use Rattle.std.proofs.Common.{Bool, true, false, arith, if◌then◌else◌}
 use Rattle.am_names.specs.Names.{same_end}
 use Rattle.am_names.specs.declared.EndpointId.{EndpointId}
 use Rattle.am_names.specs.declared.Message.{Message}
-use Rattle.am_office.specs.declared.Outcome.{Outcome}
-use Rattle.am_office.specs.declared.Outcome.TheVariants as Out
+use Rattle.am_office_entries.specs.declared.Outcome.{Outcome}
+use Rattle.am_office_entries.specs.declared.Outcome.TheVariants as Out
 use Rattle.am_model.specs.Endpoint.{State}
 use Rattle.am_model.specs.Changes.{put, reached}
 use Rattle.am_endpoint_body.specs.Views.{Fits}

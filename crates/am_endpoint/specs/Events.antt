@@ -1,11 +1,11 @@
 -- Which entries change an endpoint that is in memory, and leave it there.
 use Rattle.std.specs.Prelude.{Bool, true, false, is_some}
 use Rattle.am_names.specs.declared.Cause.TheVariants.{NotResident}
-use Rattle.am_office.specs.declared.Event.{Event}
-use Rattle.am_office.specs.declared.Event.TheVariants as Events
-use Rattle.am_office.specs.declared.Outcome.{Outcome}
-use Rattle.am_office.specs.declared.Outcome.TheVariants as Out
-use Rattle.am_office.specs.declared.Received.TheVariants as Got
+use Rattle.am_office_entries.specs.declared.Event.{Event}
+use Rattle.am_office_entries.specs.declared.Event.TheVariants as Events
+use Rattle.am_office_entries.specs.declared.Outcome.{Outcome}
+use Rattle.am_office_entries.specs.declared.Outcome.TheVariants as Out
+use Rattle.am_office_entries.specs.declared.Received.TheVariants as Got
 use Rattle.am_model.specs.Allowed.{message_in}
 
 -- whether the event is no call, and changes only endpoints that are in memory and stay there

@@ -1,7 +1,7 @@
 -- What an endpoint begins with.
 use Rattle.std.specs.Prelude.{◌≡◌, ◌≤◌, Bool, true, false}
-use Rattle.am_office.specs.declared.Place.{Place}
-use Rattle.am_office.specs.declared.Place.TheVariants.{Host, Disk, Frame, Direct}
+use Rattle.am_office_entries.specs.declared.Place.{Place}
+use Rattle.am_office_entries.specs.declared.Place.TheVariants.{Host, Disk, Frame, Direct}
 use Rattle.am_model.specs.Layout.{IsPoolLawful}
 use Rattle.am_endpoint_body.specs.declared.settings.EndSettings.{EndSettings}
 

@@ -1,7 +1,7 @@
 -- An endpoint as its callers see it: what it began with, its log, whether it has room for one more entry, and the slots of
 -- its messages in flight, in order.
 use Rattle.std.specs.Prelude.{ℕ, ◌-◌, Bool, List}
-use Rattle.am_office.specs.declared.Entry.{Entry}
+use Rattle.am_office_entries.specs.declared.Entry.{Entry}
 use Rattle.am_model.specs.Endpoint.{State, fresh}
 use Rattle.am_model.specs.Changes.{replay}
 use Rattle.am_endpoint_body.specs.declared.settings.EndSettings.{EndSettings}

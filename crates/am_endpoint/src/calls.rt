@@ -10,7 +10,7 @@ ghost use Rattle.std.specs.Prelude.{◌≡◌, ◌+◌, ◌<◌, ◌^◌, true};
 
 use crate::fields::Fields;
 use am_names::{EndpointId, Serial, Tag, Words};
-use am_office::{Call, HandlerKind, Mask, Outcome, Refusal};
+use am_office_entries::{Call, HandlerKind, Mask, Outcome, Refusal};
 
 /// What comes of a test of the events.
 fn tested(mask: Mask, quiet: bool) -> Outcome

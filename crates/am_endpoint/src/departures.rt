@@ -10,7 +10,7 @@ ghost use Rattle.std.specs.Prelude.{◌≡◌, ◌++◌, ◌∷◌, [], IsSome, 
 use crate::fields::Fields;
 use am_block::Slot;
 use am_names::{EndpointId, Message, Why};
-use am_office::Outcome;
+use am_office_entries::Outcome;
 
 impl Fields {
     /// How often the front message bounced.

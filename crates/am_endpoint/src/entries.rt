@@ -8,7 +8,7 @@ ghost use Rattle.std.specs.Prelude.{◌≡◌, ◌||◌, false, is_some, true};
 
 use crate::fields::Fields;
 use am_names::{Cause, EndpointId};
-use am_office::{Entry, Event, Outcome, Place, Received};
+use am_office_entries::{Entry, Event, Outcome, Place, Received};
 
 impl Fields {
     fn unload(&mut self)

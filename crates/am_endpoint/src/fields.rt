@@ -1,12 +1,12 @@
 // Where an endpoint in memory lies, and its body.
 ghost use Rattle.am_endpoint.specs.Seen.{state_in};
 ghost use Rattle.am_model.specs.Changes.{paged_out, wanted_on_host};
-ghost use Rattle.am_office.specs.declared.Outcome.TheVariants as Out;
+ghost use Rattle.am_office_entries.specs.declared.Outcome.TheVariants as Out;
 ghost use Rattle.std.specs.Prelude.{◌≡◌};
 
 use am_endpoint_body::Body;
 use am_model::Head;
-use am_office::Place;
+use am_office_entries::Place;
 
 /// The state of an endpoint in memory.
 #[derive(Drop)]

@@ -8,7 +8,7 @@ ghost use Rattle.std.specs.Prelude.{◌≡◌};
 use crate::fields::Fields;
 use am_block::Slot;
 use am_names::{EndpointId, Why};
-use am_office::{Entry, Event, Outcome, Received};
+use am_office_entries::{Entry, Event, Outcome, Received};
 
 impl Fields {
     /// After a receipt with this result, which settles the message in flight at this slot.

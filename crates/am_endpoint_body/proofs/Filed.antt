@@ -5,7 +5,7 @@ use Rattle.am_names.specs.Names.{has_serial, is_reply, is_request}
 use Rattle.am_names.specs.declared.Serial.{Serial}
 use Rattle.am_names.specs.declared.Message.{Message}
 use Rattle.am_names.specs.declared.Tag.{Tag}
-use Rattle.am_office.specs.declared.HandlerKind.{HandlerKind}
+use Rattle.am_office_entries.specs.declared.HandlerKind.{HandlerKind}
 use Rattle.std.specs.Option.{option_map}
 use Rattle.am_block.specs.Pools.{Pools, IsBlock, home, moved, size, without}
 use Rattle.am_block.specs.declared.Slot.{Slot}

@@ -1,8 +1,8 @@
 -- A body of its counts and tables.
 use Rattle.std.specs.Prelude.{ℕ, Option, List}
 use Rattle.am_names.specs.declared.Tag.{Tag}
-use Rattle.am_office.specs.declared.HandlerKind.{HandlerKind}
-use Rattle.am_office.specs.declared.Place.TheVariants.{Host}
+use Rattle.am_office_entries.specs.declared.HandlerKind.{HandlerKind}
+use Rattle.am_office_entries.specs.declared.Place.TheVariants.{Host}
 use Rattle.am_model.specs.Endpoint.{Body, fresh}
 use Rattle.am_translate.specs.Tables.{Table}
 

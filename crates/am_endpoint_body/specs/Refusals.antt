@@ -1,6 +1,6 @@
 -- What an application is told where a table of its endpoint refuses.
-use Rattle.am_office.specs.declared.Refusal.{Refusal}
-use Rattle.am_office.specs.declared.Refusal.TheVariants as No
+use Rattle.am_office_entries.specs.declared.Refusal.{Refusal}
+use Rattle.am_office_entries.specs.declared.Refusal.TheVariants as No
 use Rattle.am_translate.specs.declared.MapFault.{MapFault}
 use Rattle.am_translate.specs.declared.MapFault.TheVariants as MapFaults
 use Rattle.am_translate.specs.declared.UnmapFault.{UnmapFault}

@@ -2,7 +2,7 @@
 use Rattle.std.specs.Prelude.{ℕ, Option, None, Some}
 use Rattle.am_names.specs.declared.Message.{Message}
 use Rattle.am_names.specs.declared.Words.{Words}
-use Rattle.am_office.specs.declared.HandlerKind.{HandlerKind}
+use Rattle.am_office_entries.specs.declared.HandlerKind.{HandlerKind}
 use Rattle.am_handlers.specs.Handlers.{reply_of}
 use Rattle.am_model.specs.Calls.{sum_after}
 use Rattle.am_model.specs.Changes.{kind_run, without_record}

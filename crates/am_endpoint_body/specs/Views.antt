@@ -4,14 +4,14 @@ use Rattle.am_names.specs.declared.Message.{Message}
 use Rattle.am_names.specs.declared.MsgKind.TheVariants.{Empty}
 use Rattle.am_names.specs.declared.Tag.{Tag}
 use Rattle.am_names.specs.declared.Why.TheVariants.{Unknown}
-use Rattle.am_office.specs.declared.HandlerKind.{HandlerKind}
+use Rattle.am_office_entries.specs.declared.HandlerKind.{HandlerKind}
 use Rattle.am_block.specs.Pools.{Pools}
 use Rattle.am_block.specs.declared.Descriptor.{Descriptor}
 use Rattle.am_model.specs.declared.Flying.{Flying}
 use Rattle.am_model.specs.declared.Notice.{Notice}
 use Rattle.am_model.specs.declared.Queued.{Queued}
 use Rattle.am_model.specs.Calls.{messages_held}
-use Rattle.am_office.specs.declared.Place.TheVariants.{Host}
+use Rattle.am_office_entries.specs.declared.Place.TheVariants.{Host}
 use Rattle.am_model.specs.Endpoint.{Body, State, fresh}
 use Rattle.am_translate.specs.Tables.{Table}
 

@@ -8,7 +8,7 @@ use crate::{Body, SLOTS};
 use am_block::Block;
 use am_handlers::Handlers;
 use am_names::Tag;
-use am_office::NoMemory;
+use am_office_entries::NoMemory;
 use am_translate::Translate;
 use std::alloc::Global;
 

@@ -8,7 +8,7 @@ use crate::Body;
 use am_block::{Block, Descriptor, List};
 use am_model::{Notice, Queued};
 use am_names::Message;
-use am_office::NoMemory;
+use am_office_entries::NoMemory;
 use std::alloc::Global;
 
 /// What the descriptors of a list are seen as.

@@ -8,7 +8,7 @@ ghost use Rattle.std.specs.Prelude.{◌≡◌, ◌↔◌, ◌+◌, ◌≤◌, �
 use crate::Body;
 use crate::walks::{Sought, count};
 use am_block::List;
-use am_office::Refusal;
+use am_office_entries::Refusal;
 
 impl Body {
     /// How many messages of its own are queued, in flight or noticed.

@@ -26,7 +26,7 @@ pub use crate::settings::EndSettings;
 use am_block::Block;
 use am_handlers::Handlers;
 use am_names::Tag;
-use am_office::NoMemory;
+use am_office_entries::NoMemory;
 use am_translate::Translate;
 use std::alloc::Global;
 use std::marker::Model;

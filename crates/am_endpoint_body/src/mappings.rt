@@ -9,7 +9,7 @@ ghost use Rattle.std.specs.Result.{result_err};
 
 use crate::Body;
 use am_names::{EndpointId, Tag};
-use am_office::Refusal;
+use am_office_entries::Refusal;
 use am_translate::{MapFault, UnmapFault};
 
 fn of_map(fault: MapFault) -> Refusal

@@ -3,12 +3,12 @@ ghost use Rattle.am_endpoint_body.specs.Views.{on_host};
 ghost use Rattle.am_model.specs.Calls.{poll, poll_requests};
 ghost use Rattle.am_model.specs.Changes.{called};
 ghost use Rattle.am_model.specs.Endpoint.{IsWithinBounds};
-ghost use Rattle.am_office.specs.declared.Call.TheVariants as Calls;
+ghost use Rattle.am_office_entries.specs.declared.Call.TheVariants as Calls;
 ghost use Rattle.std.specs.Prelude.{◌≡◌, ◌+◌, ◌<◌, ◌^◌};
 
 use crate::Body;
 use am_names::EndpointId;
-use am_office::Outcome;
+use am_office_entries::Outcome;
 
 impl Body {
     /// Polls the endpoint `e`, whose body this is: a notice first, then a reply, then a request.

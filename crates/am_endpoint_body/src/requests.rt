@@ -4,14 +4,14 @@ ghost use Rattle.am_endpoint_body.specs.Views.{on_host, table_of};
 ghost use Rattle.am_model.specs.Calls.{new_request, new_serial, request_refusal};
 ghost use Rattle.am_model.specs.Changes.{request_accepted};
 ghost use Rattle.am_model.specs.Endpoint.{IsWithinBounds, entry_at, requests_held};
-ghost use Rattle.am_office.specs.declared.Outcome.TheVariants as Out;
+ghost use Rattle.am_office_entries.specs.declared.Outcome.TheVariants as Out;
 ghost use Rattle.am_translate.specs.Tables.{credit_fault, is_known, target_at};
 ghost use Rattle.std.specs.Prelude.{◌≡◌, ◌+◌, ◌<◌, ◌^◌, [], ◌∷◌, ◌++◌, IfOk, None, OnErr, OnOk, Some, false};
 ghost use Rattle.std.specs.Result.{result_err};
 
 use crate::Body;
 use am_names::{EndpointId, Message, MsgKind, Serial, Words};
-use am_office::Refusal;
+use am_office_entries::Refusal;
 use am_translate::{CreditFault, Target};
 
 fn of_credit(fault: CreditFault) -> Refusal

@@ -10,7 +10,7 @@ ghost use Rattle.std.specs.Result.{result_err};
 use crate::Body;
 use am_handlers::{HandlerFault, run};
 use am_names::{EndpointId, Message, MsgKind, Tag, Words};
-use am_office::{HandlerKind, Refusal};
+use am_office_entries::{HandlerKind, Refusal};
 
 const NO_WORDS: Words = Words {
     a: 0,

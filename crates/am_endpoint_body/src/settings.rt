@@ -1,6 +1,6 @@
 // What an endpoint begins with.
 use am_names::{EndpointId, NodeId, Tag};
-use am_office::Place;
+use am_office_entries::Place;
 
 /// What an endpoint begins with: whose it is, its tag and its place, and its limits.
 #[derive(Clone, Copy, PartialEq, Eq)]

@@ -2,7 +2,7 @@
 
 ghost use Rattle.std.specs.Prelude.{◌≡◌, ◌<◌, ◌^◌, [], false, length};
 
-use am_office::Place;
+use am_office_entries::Place;
 use am_places::Book;
 use am_places_stays::Grow;
 use std::alloc::Global;

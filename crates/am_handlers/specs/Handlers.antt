@@ -1,8 +1,8 @@
 -- A table of handlers, and what a handler sends back.
 use Rattle.std.specs.Prelude.{◌≡◌, ℕ, Option, Some, None, List, length, slice_get}
 use Rattle.am_names.specs.declared.Words.{Words}
-use Rattle.am_office.specs.declared.HandlerKind.{HandlerKind}
-use Rattle.am_office.specs.declared.HandlerKind.TheVariants.{Note, Echo, Add}
+use Rattle.am_office_entries.specs.declared.HandlerKind.{HandlerKind}
+use Rattle.am_office_entries.specs.declared.HandlerKind.TheVariants.{Note, Echo, Add}
 use Rattle.am_model.specs.Calls.{sum_after}
 use Rattle.am_model.specs.Endpoint.{entry_at}
 

@@ -7,7 +7,7 @@ ghost use Rattle.am_model.specs.Endpoint.{entry_at};
 ghost use Rattle.std.specs.Prelude.{◌≡◌, ◌≤◌, ◌⊎◌, ◌↔◌, None, Some, Err, OnErr, OnOk, replicate, slice_set};
 
 use am_names::Words;
-use am_office::HandlerKind;
+use am_office_entries::HandlerKind;
 use std::marker::Model;
 use thiserror::Error;
 
@@ -20,7 +20,7 @@ pub struct Handlers {
 
 impl Model for Handlers {
     ghost use Rattle.std.specs.Prelude.{List, Option};
-    ghost use Rattle.am_office.specs.declared.HandlerKind.{HandlerKind};
+    ghost use Rattle.am_office_entries.specs.declared.HandlerKind.{HandlerKind};
 
     ghost Value = { List (Option HandlerKind) };
 

@@ -3,7 +3,7 @@ use Rattle.std.specs.Prelude.{◌↔◌, Result, Ok, Err}
 use Rattle.std.proofs.Common.{◌≡◌, ◌<◌, List, [], ◌∷◌, ◌++◌, length, ap, arith}
 use Rattle.std.proofs.lemmas.List.{length_push}
 use Rattle.am_model.specs.declared.EntryFault.{EntryFault}
-use Rattle.am_office.specs.declared.Entry.{Entry}
+use Rattle.am_office_entries.specs.declared.Entry.{Entry}
 
 -- a log that ends with an entry isn't empty
 pub longer : (log past : List Entry) (x : Entry) → log ≡ past ++ x ∷ [] → 0 < length log

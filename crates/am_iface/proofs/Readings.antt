@@ -8,7 +8,7 @@ use Rattle.am_names.specs.declared.EndpointId.{EndpointId}
 use Rattle.am_names.specs.declared.NodeId.{NodeId}
 use Rattle.am_names.specs.declared.Message.{Message}
 use Rattle.am_names.specs.declared.AnswerPacket.{AnswerPacket}
-use Rattle.am_office.specs.declared.Entry.{Entry}
+use Rattle.am_office_entries.specs.declared.Entry.{Entry}
 use Rattle.am_model.specs.Channels.{Channel, sequence, bound_message, attempt, mark, arrival}
 use Rattle.am_model.specs.History.{channel_to, counts}
 use Rattle.am_channel.specs.declared.ends.Ends.{Ends}

@@ -9,16 +9,16 @@ use Rattle.am_names.specs.declared.Message.{Message}
 use Rattle.am_names.specs.declared.Parcel.{Parcel}
 use Rattle.am_names.specs.declared.AnswerPacket.{AnswerPacket}
 use Rattle.am_names.specs.declared.Packet.TheVariants as Packets
-use Rattle.am_office.specs.declared.Event.TheVariants as Events
-use Rattle.am_office.specs.declared.Received.{Received}
-use Rattle.am_office.specs.declared.Received.TheVariants as Got
-use Rattle.am_office.specs.declared.Outcome.TheVariants as Out
-use Rattle.am_office.specs.declared.Entry.{Entry}
+use Rattle.am_office_entries.specs.declared.Event.TheVariants as Events
+use Rattle.am_office_entries.specs.declared.Received.{Received}
+use Rattle.am_office_entries.specs.declared.Received.TheVariants as Got
+use Rattle.am_office_entries.specs.declared.Outcome.TheVariants as Out
+use Rattle.am_office_entries.specs.declared.Entry.{Entry}
 use Rattle.am_model.specs.Choice.{first_holding}
-use Rattle.am_office.specs.declared.Condition.TheVariants as Needs
+use Rattle.am_office_entries.specs.declared.Condition.TheVariants as Needs
 use Rattle.am_channel.specs.declared.sending.Sent.{Sent}
 use Rattle.am_model.specs.Endpoint.{State, fresh, verdict}
-use Rattle.am_office.specs.declared.Place.TheVariants.{Host}
+use Rattle.am_office_entries.specs.declared.Place.TheVariants.{Host}
 use Rattle.am_model.specs.Changes.{flying_of}
 use Rattle.am_model.specs.Channels.{Channel, Arrival, Stale, Again, Fresh, sequence, bound_message, attempt, arrival}
 use Rattle.am_model.specs.History.{channel_to, bounced, counts, decided, is_answered, next_number, sent, settle_by}

@@ -1,10 +1,10 @@
 -- What a turn with an endpoint answers, by what logging its entry answers.
 use Rattle.std.specs.Prelude.{◌↔◌, Result, Ok, Err, OnOk, OnErr}
 use Rattle.std.proofs.Common.{◌≡◌, ◌≢◌, inl, inr, ⊎_elim, ℕ, ◌<◌, [], ◌∷◌, ◌++◌, length, Some, None, refl, sym, ap, ◌∙◌, subst, arith}
-use Rattle.am_office.specs.declared.Condition.{Condition}
-use Rattle.am_office.specs.declared.Part.{Part}
-use Rattle.am_office.specs.declared.Part.TheVariants as Parts
-use Rattle.am_office.specs.declared.Entry.{Entry}
+use Rattle.am_office_entries.specs.declared.Condition.{Condition}
+use Rattle.am_office_entries.specs.declared.Part.{Part}
+use Rattle.am_office_entries.specs.declared.Part.TheVariants as Parts
+use Rattle.am_office_entries.specs.declared.Entry.{Entry}
 use Rattle.am_endpoint.specs.View.{EndpointView, state_after}
 use Rattle.am_model_parts.specs.Interface.{failing_at}
 use Rattle.am_model_parts.specs.declared.work.Work.{Work}

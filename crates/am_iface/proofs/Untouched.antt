@@ -6,7 +6,7 @@ use Rattle.am_names.specs.declared.EndpointId.{EndpointId}
 use Rattle.am_names.specs.declared.NodeId.{NodeId}
 use Rattle.am_names.specs.declared.Message.{Message}
 use Rattle.am_names.specs.declared.Packet.TheVariants as Packets
-use Rattle.am_office.specs.declared.Entry.{Entry}
+use Rattle.am_office_entries.specs.declared.Entry.{Entry}
 use Rattle.am_channel.specs.declared.sending.Bound.{Bound}
 use Rattle.am_model.specs.Channels.{Arrival, Stale, Again, Fresh, Channel, bound_message}
 use Rattle.am_model.specs.History.{is_bound}

@@ -1,6 +1,6 @@
 -- A call on a channel of an interface, and the entry that tells of it.
 use Rattle.std.specs.Prelude.{◌≡◌, List}
-use Rattle.am_office.specs.declared.Entry.{Entry}
+use Rattle.am_office_entries.specs.declared.Entry.{Entry}
 use Rattle.am_model.specs.Channels.{Channel}
 use Rattle.am_channel.specs.declared.ends.Ends.{Ends}
 use Rattle.am_channel.specs.Calls.{Call, Tells, after}

@@ -1,9 +1,9 @@
 -- What a turn of an interface answers, and what it leaves.
 use Rattle.std.specs.Prelude.{◌≡◌, ◌≢◌, ◌↔◌, ℕ, ◌+◌, max, Some, None, Result, Err, OnErr, OnOk, List, [], ◌∷◌, ◌++◌, length}
-use Rattle.am_office.specs.declared.Condition.{Condition}
-use Rattle.am_office.specs.declared.Part.{Part}
-use Rattle.am_office.specs.declared.Part.TheVariants as Parts
-use Rattle.am_office.specs.declared.Entry.{Entry}
+use Rattle.am_office_entries.specs.declared.Condition.{Condition}
+use Rattle.am_office_entries.specs.declared.Part.{Part}
+use Rattle.am_office_entries.specs.declared.Part.TheVariants as Parts
+use Rattle.am_office_entries.specs.declared.Entry.{Entry}
 use Rattle.am_model.specs.Endpoint.{State}
 use Rattle.am_model_parts.specs.declared.work.Work.{Work}
 use Rattle.am_model_parts.specs.Interface.{event_of, failing_at, outcome_at, stamp_in}

@@ -1,7 +1,7 @@
 -- Where a message is bound.
 use Rattle.std.specs.Prelude.{◌≡◌, ℕ, ◌<◌, Option, None, Some}
-use Rattle.am_office.specs.declared.Condition.{Condition}
-use Rattle.am_office.specs.declared.Condition.TheVariants.{NoChannel}
+use Rattle.am_office_entries.specs.declared.Condition.{Condition}
+use Rattle.am_office_entries.specs.declared.Condition.TheVariants.{NoChannel}
 use Rattle.am_model.specs.declared.Queued.{Queued}
 use Rattle.am_model.specs.History.{free_from}
 use Rattle.am_model_parts.specs.Interface.{home_in}

@@ -1,9 +1,9 @@
 -- What a turn of an interface with an endpoint answers, and what it leaves of both.
 use Rattle.std.specs.Prelude.{◌≡◌, ◌≢◌, ◌⊎◌, ◌↔◌, ℕ, Option, Some, None, Result, Err, OnErr, OnOk, IsSome, List, [], ◌∷◌, ◌++◌, length}
-use Rattle.am_office.specs.declared.Condition.{Condition}
-use Rattle.am_office.specs.declared.Part.{Part}
-use Rattle.am_office.specs.declared.Part.TheVariants as Parts
-use Rattle.am_office.specs.declared.Entry.{Entry}
+use Rattle.am_office_entries.specs.declared.Condition.{Condition}
+use Rattle.am_office_entries.specs.declared.Part.{Part}
+use Rattle.am_office_entries.specs.declared.Part.TheVariants as Parts
+use Rattle.am_office_entries.specs.declared.Entry.{Entry}
 use Rattle.am_names.specs.declared.Serial.{Serial}
 use Rattle.am_block.specs.Pools.{without}
 use Rattle.am_endpoint_body.specs.Flights.{slot_of}

@@ -13,8 +13,8 @@ ghost use Rattle.am_model_parts.specs.declared.work.Work.TheVariants as Works;
 ghost use Rattle.am_model.specs.Allowed.{MayBind};
 ghost use Rattle.am_model.specs.Endpoint.{front, is_direct};
 ghost use Rattle.am_model.specs.History.{free_from};
-ghost use Rattle.am_office.specs.declared.Condition.{Condition};
-ghost use Rattle.am_office.specs.declared.Part.{Part};
+ghost use Rattle.am_office_entries.specs.declared.Condition.{Condition};
+ghost use Rattle.am_office_entries.specs.declared.Part.{Part};
 ghost use Rattle.std.specs.Prelude.{◌≡◌, ◌≢◌, ◌↔◌, ◌-◌, ◌<◌, ◌^◌, ℕ, [], ◌∷◌, ◌++◌, Err, None, Some, false, IfOk, IfSome, IsNone, OnErr, OnOk};
 ghost use Rattle.std.specs.Result.{result_err};
 
@@ -26,7 +26,7 @@ use am_channel::Ends;
 use am_endpoint::Endpoint;
 use am_model::{EntryFault, Queued, is_resident};
 use am_names::{EndpointId, Message, NodeId};
-use am_office::{Condition, Entry, Part, growth};
+use am_office_entries::{Condition, Entry, Part, growth};
 
 /// A message that is to be bound, the node where it goes, and the channel to it that is free.
 #[derive(Drop)]

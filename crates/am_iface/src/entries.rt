@@ -8,7 +8,7 @@ ghost use Rattle.std.specs.Prelude.{◌≡◌, ◌≤◌, None, if◌then◌else
 use am_channel::{Arrival, Ends, Sent};
 use am_model::may_bounce;
 use am_names::{AnswerPacket, EndpointId, Message, NodeId, Parcel, Verdict};
-use am_office::{Entry, Event, Outcome, Received};
+use am_office_entries::{Entry, Event, Outcome, Received};
 
 /// What comes of a parcel that is stale or comes again.
 pub(crate) fn repeat(ends: &Ends, answer: u32, p: &Parcel) -> Received

@@ -20,10 +20,10 @@ ghost use Rattle.am_names.specs.declared.Packet.TheVariants as Packets;
 ghost use Rattle.am_model.specs.Channels.{attempt, bound_message, emitted};
 ghost use Rattle.std.specs.Option.{option_copied, option_map};
 ghost use Rattle.am_iface.specs.Made.{IsMade};
-ghost use Rattle.am_office.specs.Entries.{emitted_of};
-ghost use Rattle.am_office.specs.declared.Entry.{Entry};
-ghost use Rattle.am_office.specs.declared.Condition.{Condition};
-ghost use Rattle.am_office.specs.declared.Part.{Part};
+ghost use Rattle.am_office_entries.specs.Entries.{emitted_of};
+ghost use Rattle.am_office_entries.specs.declared.Entry.{Entry};
+ghost use Rattle.am_office_entries.specs.declared.Condition.{Condition};
+ghost use Rattle.am_office_entries.specs.declared.Part.{Part};
 ghost use Rattle.std.specs.Prelude.{◌≡◌, ◌≢◌, ◌↔◌, ◌+◌, ◌-◌, ◌*◌, ◌<◌, ◌≤◌, ◌^◌, IsTrue, cond, false, max, None, Some, [], ◌∷◌, ◌++◌, length, IfOk, IfSome, List, OnOk, OnErr, Err, get_or, slice_get, slice_set};
 
 mod binds;
@@ -51,8 +51,8 @@ use am_endpoint::Endpoint;
 pub use am_model::{EntryFault, EntryFault as IfaceFault};
 pub use am_model_parts::work::Work;
 use am_names::{AnswerPacket, EndpointId, NodeId, Packet, Parcel};
-pub use am_office::NoMemory;
-use am_office::{Condition, Entry, Part, Received, growth};
+pub use am_office_entries::NoMemory;
+use am_office_entries::{Condition, Entry, Part, Received, growth};
 use std::alloc::Global;
 use std::marker::Model;
 

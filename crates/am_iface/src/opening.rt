@@ -3,7 +3,7 @@ ghost use Rattle.am_channel.specs.Ends.{new_ends};
 ghost use Rattle.std.specs.Prelude.{◌≡◌, vec_len, All, IfOk};
 
 use am_channel::Ends;
-use am_office::NoMemory;
+use am_office_entries::NoMemory;
 use std::alloc::Global;
 
 /// Four ends for each of 16 peers, on which no call was made.

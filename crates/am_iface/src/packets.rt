@@ -1,10 +1,10 @@
 // The packet that an entry emits.
-ghost use Rattle.am_office.specs.Entries as does;
+ghost use Rattle.am_office_entries.specs.Entries as does;
 ghost use Rattle.am_names.specs.declared.NodeId.{NodeId};
 ghost use Rattle.std.specs.Prelude.{◌≡◌, ℕ, is_some};
 
 use am_names::{AnswerPacket, NodeId, Packet, Parcel, Verdict};
-use am_office::{Entry, Event, Outcome, Received};
+use am_office_entries::{Entry, Event, Outcome, Received};
 
 /// The answer in a receipt, if it sends one.
 fn answer_by(received: &Received) -> Option<(u32, Verdict)>

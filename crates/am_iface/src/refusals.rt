@@ -13,7 +13,7 @@ use am_endpoint::Endpoint;
 use am_model::EntryFault;
 use am_model_parts::work::Work;
 use am_names::NodeId;
-use am_office::{Condition, Part};
+use am_office_entries::{Condition, Part};
 
 /// What is refused for this condition that fails, or else for this log that is full, if either is.
 pub fn refused_by(condition: Option<Condition>, full: Option<Part>) -> Option<EntryFault>

@@ -12,8 +12,8 @@ ghost use Rattle.am_model.specs.Endpoint.{is_direct};
 ghost use Rattle.am_model.specs.History.{settle_by};
 ghost use Rattle.am_model_parts.specs.declared.work.Work.TheVariants as Works;
 ghost use Rattle.am_names.specs.declared.Packet.TheVariants as Packets;
-ghost use Rattle.am_office.specs.declared.Condition.{Condition};
-ghost use Rattle.am_office.specs.declared.Part.{Part};
+ghost use Rattle.am_office_entries.specs.declared.Condition.{Condition};
+ghost use Rattle.am_office_entries.specs.declared.Part.{Part};
 ghost use Rattle.std.specs.Prelude.{◌≡◌, ◌≢◌, ◌↔◌, ◌<◌, Err, Some, [], ◌∷◌, ◌++◌, false, true, length, IsSome, OnErr, OnOk};
 
 use crate::by_ends::{answer, decide, time_out};
@@ -25,7 +25,7 @@ use am_endpoint::Endpoint;
 use am_model::{EntryFault, Flying};
 use am_model_parts::work::Work;
 use am_names::{AnswerPacket, Message, NodeId, Packet, Parcel, Serial, Verdict};
-use am_office::{Entry, Event, Outcome, Part, growth};
+use am_office_entries::{Entry, Event, Outcome, Part, growth};
 
 impl Interface {
     /// Whether both logs have room for one more entry: `LogFull` names the endpoint's where it is full, and else the

@@ -17,9 +17,9 @@ use Rattle.am_lemmas.proofs.Options.{option_map-option_or}
 use Rattle.am_lemmas.proofs.Numbered.{lines_more, lines_all, keys_rise, key_finds}
 use Rattle.am_names.specs.declared.EndpointId.{EndpointId}
 use Rattle.am_names.specs.declared.NodeId.{NodeId}
-use Rattle.am_office.specs.declared.Call.{Call}
-use Rattle.am_office.specs.declared.Call.TheVariants.{Request, Poll, SetHandler}
-use Rattle.am_office.specs.declared.HandlerKind.TheVariants.{Note}
+use Rattle.am_office_entries.specs.declared.Call.{Call}
+use Rattle.am_office_entries.specs.declared.Call.TheVariants.{Request, Poll, SetHandler}
+use Rattle.am_office_entries.specs.declared.HandlerKind.TheVariants.{Note}
 use Rattle.am_scenario_plan.specs.declared.plan.PlanLine.{PlanLine}
 use Rattle.am_scenario_types.specs.declared.parts.Form.TheVariants.{Run}
 use Rattle.am_scenario_types.specs.declared.parts.Network.TheVariants.{Packet}
@@ -29,8 +29,8 @@ use Rattle.am_scenario_types.specs.declared.parts.ThreadLine.{ThreadLine}
 use Rattle.am_scenario_types.specs.declared.parts.ScriptCall.{ScriptCall}
 use Rattle.am_scenario_types.specs.Lawful.{node_of, thread_node, IsDeclared, IsOn, IsLawfulEnd, IsLawfulBundle, IsLawfulThread, IsLawfulPlanLine, IsSamePlace}
 use Rattle.am_scenario_types.specs.Lawful.{IsLawfulFaultLine, IsSamePageCall, IsLawfulCall, IsLawfulScriptCall, IsLawfulEvent, IsLawful, IsOfForm}
-use Rattle.am_job_words.specs.declared.codes.CodedWord.{CodedWord}
-use Rattle.am_job_words.specs.Codes.{Fits}
+use Rattle.am_job.specs.declared.words.codes.CodedWord.{CodedWord}
+use Rattle.am_job.specs.Words.Codes.{Fits}
 use Rattle.am_job.specs.Scripts.{map_to, maps_below, on_owner, on_sender, opening, openings_below, owner, polls, script, sending, sendings}
 use Rattle.am_job.specs.Rounds.{end_line, round_at, round_size, round_words, scenario, thread_line}
 use Rattle.am_job.proofs.Below.{ends_below, threads_below}

@@ -1,4 +1,16 @@
 pub mod Below
 pub mod Lawfully
 pub mod More
-pub mod Sent
+pub mod SentTexts
+pub mod Seen
+pub mod Parted
+pub mod Carried
+pub mod Tallied
+pub mod Told
+pub mod Counted
+pub mod Lines
+pub mod Injected
+pub mod Noted
+pub mod Called
+pub mod RoundsRun
+pub mod Ends

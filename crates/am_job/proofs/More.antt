@@ -4,12 +4,12 @@ use Rattle.std.proofs.Common.{add-one}
 use Rattle.std.specs.List.{range_with_len}
 use Rattle.std.proofs.lemmas.List.{drop_more, drop_all}
 use Rattle.std.proofs.lemmas.List.FromFn.{map-range_with_len_more}
-use Rattle.am_office.specs.declared.Call.TheVariants.{Poll}
+use Rattle.am_office_entries.specs.declared.Call.TheVariants.{Poll}
 use Rattle.am_scenario_types.specs.declared.parts.ScriptCall.{ScriptCall}
-use Rattle.am_job_words.specs.declared.codes.CodedWord.{CodedWord}
+use Rattle.am_job.specs.declared.words.codes.CodedWord.{CodedWord}
 use Rattle.am_scenario_types.specs.Lists.{ScenarioLists}
-use Rattle.am_job_words.specs.Codes.{sent_words}
-use Rattle.am_job_words.specs.Texts.{long_count}
+use Rattle.am_job.specs.Words.Codes.{sent_words}
+use Rattle.am_job.specs.Words.Texts.{long_count}
 use Rattle.am_job.specs.Lists.{JobLists}
 use Rattle.am_job.specs.Rounds.{job_of, round_at, round_count, rounds_of}
 use Rattle.am_job.specs.Scripts.{map_to, maps_below, on_owner, on_sender, opening, openings_below, polls, sending, sendings}

@@ -1,10 +1,10 @@
 -- The words that scripts send, and those that journals run.
 use Rattle.std.specs.Prelude.{ℕ, List, filter_map, fold}
 use Rattle.std.specs.List.{flat_map}
-use Rattle.am_office.specs.declared.Entry.{Entry}
+use Rattle.am_office_entries.specs.declared.Entry.{Entry}
 use Rattle.am_scenario_types.specs.declared.parts.ScriptCall.{ScriptCall}
 use Rattle.am_scenario_types.specs.Lists.{ScenarioLists}
-use Rattle.am_job_words.specs.Counts.{Counted, ask, word_asked, words_run}
+use Rattle.am_job.specs.Words.Counts.{Counted, ask, word_asked, words_run}
 use Rattle.am_job.specs.Lists.{JobLists}
 
 -- the words that a script sends, in order

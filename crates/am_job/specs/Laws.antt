@@ -1,7 +1,7 @@
 -- What jobs send.
 use Rattle.std.specs.Prelude.{◌≡◌, ℕ, ◌<◌, ◌≤◌, List}
 use Rattle.am_lemmas.specs.Bytes.{AreBytes}
-use Rattle.am_job_words.specs.Texts.{short_words}
+use Rattle.am_job.specs.Words.Texts.{short_words}
 use Rattle.am_job.specs.Asked.{asked_by}
 use Rattle.am_job.specs.Rounds.{job_of}
 

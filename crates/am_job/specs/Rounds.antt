@@ -6,9 +6,9 @@ use Rattle.am_scenario_types.specs.declared.parts.Network.TheVariants.{Packet}
 use Rattle.am_scenario_types.specs.declared.parts.EndLine.{EndLine}
 use Rattle.am_scenario_types.specs.declared.parts.ThreadLine.{ThreadLine}
 use Rattle.am_scenario_types.specs.Lists.{ScenarioLists}
-use Rattle.am_job_words.specs.declared.codes.CodedWord.{CodedWord}
-use Rattle.am_job_words.specs.Codes.{sent_words}
-use Rattle.am_job_words.specs.Texts.{long_count}
+use Rattle.am_job.specs.declared.words.codes.CodedWord.{CodedWord}
+use Rattle.am_job.specs.Words.Codes.{sent_words}
+use Rattle.am_job.specs.Words.Texts.{long_count}
 use Rattle.am_job.specs.Lists.{JobLists}
 use Rattle.am_job.specs.Scripts.{script}
 

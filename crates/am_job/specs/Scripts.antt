@@ -1,10 +1,10 @@
 -- What the threads of a round call. Node n has endpoint 2n, which sends, endpoint 2n + 1, which owns, and thread n.
 use Rattle.std.specs.Prelude.{ℕ, zero, suc, ◌+◌, ◌*◌, ◌%◌, List, [], ◌∷◌, ◌++◌}
-use Rattle.am_office.specs.declared.Call.{Call}
-use Rattle.am_office.specs.declared.Call.TheVariants.{Request, Poll, Map, SetHandler}
-use Rattle.am_office.specs.declared.HandlerKind.TheVariants.{Note}
+use Rattle.am_office_entries.specs.declared.Call.{Call}
+use Rattle.am_office_entries.specs.declared.Call.TheVariants.{Request, Poll, Map, SetHandler}
+use Rattle.am_office_entries.specs.declared.HandlerKind.TheVariants.{Note}
 use Rattle.am_scenario_types.specs.declared.parts.ScriptCall.{ScriptCall}
-use Rattle.am_job_words.specs.declared.codes.CodedWord.{CodedWord}
+use Rattle.am_job.specs.declared.words.codes.CodedWord.{CodedWord}
 use Rattle.am_scenario_generator.specs.Calls.{call_on}
 
 -- a thread's call on the endpoint of its node that owns, and on the one that sends

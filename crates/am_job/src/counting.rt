@@ -1,14 +1,14 @@
 //! The counts of a job's words.
 
 ghost use Rattle.std.specs.Prelude.{◌≡◌, ◌≤◌, ℕ, IfOk, List, OnOk, [], length};
-ghost use Rattle.am_job_words.specs.Counts.{IsCountOf, Tells, times};
+ghost use Rattle.am_job.specs.Words.Counts.{IsCountOf, Tells, times};
 ghost use Rattle.am_job.specs.Asked.{ask_script, asked_by, asked_in_all, run_in_all};
 ghost use Rattle.am_job.specs.Rounds.{IsJob};
 
 use crate::scenario::Job;
-use am_job_words::{Tally, WordCount};
+use crate::words::{Tally, WordCount};
 use am_names::NoMemory;
-use am_office::Journal;
+use am_office_entries::Journal;
 use am_scenario_types::{Scenario, ScriptCall};
 use std::alloc::Global;
 

@@ -4,11 +4,11 @@ ghost use Rattle.std.specs.Prelude.{◌≡◌, ◌*◌, ◌<◌, ◌≤◌, ◌^
 ghost use Rattle.std.specs.List.{All, range_with_len};
 ghost use Rattle.am_scenario_types.specs.declared.parts.Form.TheVariants.{Run};
 ghost use Rattle.am_scenario_types.specs.Lawful.{IsLawful, IsOfForm};
-ghost use Rattle.am_job_words.specs.Codes.{Fits};
+ghost use Rattle.am_job.specs.Words.Codes.{Fits};
 ghost use Rattle.am_job.specs.Rounds.{IsJob, end_line, job_of, round_at, round_count, round_size, round_words, scenario, thread_line};
 
 use crate::script::make_script;
-use am_job_words::{CodedWord, split};
+use crate::words::{CodedWord, split};
 use am_names::{EndpointId, NoMemory, NodeId, Tag};
 use am_scenario_types::{EndLine, Network, Scenario, ThreadLine};
 use std::alloc::{AllocError, Global};

@@ -1,12 +1,12 @@
 //! What the threads of a round call.
 
 ghost use Rattle.std.specs.Prelude.{◌≡◌, ◌++◌, ◌%◌, ◌<◌, ◌≤◌, IfOk, OnOk};
-ghost use Rattle.am_office.specs.declared.Call.TheVariants.{Request};
+ghost use Rattle.am_office_entries.specs.declared.Call.TheVariants.{Request};
 ghost use Rattle.am_job.specs.Scripts.{map_to, maps_below, on_owner, on_sender, opening, openings_below, owner, polls, script, sending, sendings};
 
-use am_job_words::CodedWord;
+use crate::words::CodedWord;
 use am_names::{EndpointId, Tag};
-use am_office::{Call, HandlerKind};
+use am_office_entries::{Call, HandlerKind};
 use am_scenario_types::ScriptCall;
 use std::alloc::{AllocError, Global};
 

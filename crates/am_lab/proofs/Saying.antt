@@ -1,7 +1,7 @@
 -- What is told of a text that `check` answered.
 use Rattle.std.proofs.Common.{◌≡◌, ◌≢◌, inl, ℕ, List, refl}
 use Rattle.am_check.specs.Exact.{IsChecked}
-use Rattle.am_check_laws.specs.Laws.{YesIsTrue}
+use Rattle.am_check.specs.Laws.Laws.{YesIsTrue}
 use Rattle.am_lab.specs.Answers.{Explains, TellsWhy}
 use Rattle.am_main_check.specs.Checks.{CheckAnswers}
 use Rattle.am_main_lines.specs.Lines.{Answer}

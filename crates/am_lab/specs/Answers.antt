@@ -15,15 +15,15 @@ use Rattle.am_scenario_types.specs.declared.parts.Form.{Form}
 use Rattle.am_scenario_types.specs.declared.parts.Form.TheVariants as Forms
 use Rattle.am_segment.specs.Spelling.{segment_grammar}
 use Rattle.am_lab_drawings.specs.Charts.{ChartAnswers}
-use Rattle.am_lab_view.specs.declared.parts.Part.{Part}
+use Rattle.am_lab_drawings.specs.declared.view.parts.Part.{Part}
 use Rattle.am_lab_words.specs.declared.Lines.{Lines}
-use Rattle.am_lab_derived.specs.Answers.{ExpandedAnswers, PrintsScenario, RoundAnswers}
+use Rattle.am_lab_scenarios.specs.Derived.Answers.{ExpandedAnswers, PrintsScenario, RoundAnswers}
 use Rattle.am_scenario_generator.specs.Scenarios.{generated}
-use Rattle.am_lab_due.specs.Due.{IsDue as WasDue}
+use Rattle.am_lab_reasons.specs.Due.Due.{IsDue as WasDue}
 use Rattle.am_lab_reasons.specs.Reasons.{Tells}
 use Rattle.am_lab_schedules.specs.Schedules.{SchedulesAnswers}
-use Rattle.am_lab_texts.specs.Replays.{ReplayAnswers}
-use Rattle.am_lab_texts.specs.Scenarios.{ScenarioAnswers}
+use Rattle.am_lab_scenarios.specs.Texts.Replays.{ReplayAnswers}
+use Rattle.am_lab_scenarios.specs.Texts.Scenarios.{ScenarioAnswers}
 use Rattle.am_lab_words.specs.declared.Asked.{Asked}
 use Rattle.am_lab_words.specs.declared.Asked.TheVariants as Commands
 

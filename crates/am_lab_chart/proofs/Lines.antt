@@ -15,25 +15,25 @@ use Rattle.am_names.specs.declared.Verdict.{Verdict}
 use Rattle.am_names.specs.declared.Verdict.TheVariants as Verdicts
 use Rattle.am_names.specs.declared.Why.{Why}
 use Rattle.am_names.specs.declared.Why.TheVariants as Whys
-use Rattle.am_office.specs.declared.Actor.{Actor}
-use Rattle.am_office.specs.declared.Actor.TheVariants as Actors
-use Rattle.am_office.specs.declared.HandlerKind.{HandlerKind}
-use Rattle.am_office.specs.declared.HandlerKind.TheVariants as HandlerKinds
-use Rattle.am_office.specs.declared.Mask.{Mask}
-use Rattle.am_office.specs.declared.Mask.TheVariants as Masks
-use Rattle.am_office.specs.declared.Call.{Call}
-use Rattle.am_office.specs.declared.Call.TheVariants as Calls
-use Rattle.am_office.specs.declared.Event.{Event}
-use Rattle.am_office.specs.declared.Event.TheVariants as Events
-use Rattle.am_office.specs.declared.Refusal.{Refusal}
-use Rattle.am_office.specs.declared.Refusal.TheVariants as Refusals
-use Rattle.am_office.specs.declared.Received.{Received}
-use Rattle.am_office.specs.declared.Received.TheVariants as Got
-use Rattle.am_office.specs.declared.Outcome.{Outcome}
-use Rattle.am_office.specs.declared.Outcome.TheVariants as Out
-use Rattle.am_office.specs.declared.Entry.{Entry}
+use Rattle.am_office_entries.specs.declared.Actor.{Actor}
+use Rattle.am_office_entries.specs.declared.Actor.TheVariants as Actors
+use Rattle.am_office_entries.specs.declared.HandlerKind.{HandlerKind}
+use Rattle.am_office_entries.specs.declared.HandlerKind.TheVariants as HandlerKinds
+use Rattle.am_office_entries.specs.declared.Mask.{Mask}
+use Rattle.am_office_entries.specs.declared.Mask.TheVariants as Masks
+use Rattle.am_office_entries.specs.declared.Call.{Call}
+use Rattle.am_office_entries.specs.declared.Call.TheVariants as Calls
+use Rattle.am_office_entries.specs.declared.Event.{Event}
+use Rattle.am_office_entries.specs.declared.Event.TheVariants as Events
+use Rattle.am_office_entries.specs.declared.Refusal.{Refusal}
+use Rattle.am_office_entries.specs.declared.Refusal.TheVariants as Refusals
+use Rattle.am_office_entries.specs.declared.Received.{Received}
+use Rattle.am_office_entries.specs.declared.Received.TheVariants as Got
+use Rattle.am_office_entries.specs.declared.Outcome.{Outcome}
+use Rattle.am_office_entries.specs.declared.Outcome.TheVariants as Out
+use Rattle.am_office_entries.specs.declared.Entry.{Entry}
 use Rattle.am_office_text.specs.Words.{Word, spaced, serial, tag, cause, verdict, why}
-use Rattle.am_office_lines.specs.Lines.{actor, interface, driver, who, handler_kind, mask, call, what, refusal, handler, sends, received, outcome, after_arrow}
+use Rattle.am_office_text.specs.EntryLines.Lines.{actor, interface, driver, who, handler_kind, mask, call, what, refusal, handler, sends, received, outcome, after_arrow}
 use Rattle.am_check_lines.specs.Grammar.{printed}
 use Rattle.am_lab_xml.specs.Escaped.{is_allowed, is_text}
 use Rattle.am_lab_xml.proofs.Bools.{all_of_both, first, second, joined}

@@ -2,8 +2,8 @@
 use Rattle.std.specs.Prelude.{ℕ, ◌+◌, ◌/◌, List, [], ◌∷◌, codes, Option, Some, None, if◌then◌else◌}
 use Rattle.std.specs.Fmt.{decimal}
 use Rattle.am_check_lines.specs.Grammar.{printed}
-use Rattle.am_office.specs.declared.Outcome.{Outcome}
-use Rattle.am_office.specs.declared.Outcome.TheVariants as Out
+use Rattle.am_office_entries.specs.declared.Outcome.{Outcome}
+use Rattle.am_office_entries.specs.declared.Outcome.TheVariants as Out
 use Rattle.am_lab_picture.specs.Data.{PictureLists}
 use Rattle.am_lab_picture.specs.declared.data.Named.{Named}
 use Rattle.am_lab_picture.specs.declared.data.Row.{Row}

@@ -16,13 +16,13 @@ use am_lab_picture::{Named, Picture, Row};
 use am_lab_xml::Attribute::{Number, Word};
 use am_lab_xml::{put_break, put_close, put_empty, put_open, put_text};
 use am_names::NoMemory;
-use am_office::{Entry, Outcome};
-use am_office_lines::entry_line;
+use am_office_entries::{Entry, Outcome};
+use am_office_text::entry_lines::entry_line;
 use am_office_text::{Piece, count};
 use std::alloc::{AllocError, Global};
 
 /// The line of an entry, without its newline.
-#[tactic(auto, using(crate::proofs::Endings::same_fronts), unfolding(am_office_lines::specs::Lines::line_of))]
+#[tactic(auto, using(crate::proofs::Endings::same_fronts), unfolding(am_office_text::specs::EntryLines::Lines::line_of))]
 pub(crate) fn line_of(alloc: Global, entry: &Entry) -> Result<Vec<u8>, NoMemory>
     ensures { IfOk result (λ text. text.items ≡ lines.printed entry.now) }
 {

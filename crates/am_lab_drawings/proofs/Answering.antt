@@ -1,6 +1,6 @@
 -- The answer of `chart`.
 use Rattle.std.proofs.Common.{◌≡◌, ◌≢◌, ℕ, List, Option, inl, refl}
-use Rattle.am_lab_view.specs.declared.parts.Part.{Part}
+use Rattle.am_lab_drawings.specs.declared.view.parts.Part.{Part}
 use Rattle.am_main_check.specs.Checks.{CheckAnswers}
 use Rattle.am_main_lines.specs.Lines.{Answer}
 use Rattle.am_scenario_types.specs.declared.parts.Form.{Form}

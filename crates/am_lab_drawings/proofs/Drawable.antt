@@ -4,7 +4,7 @@ use Rattle.std.proofs.Common.{drop, Option, Some, None, Result, Ok, Err, refl, s
 use Rattle.std.specs.Prelude.{IfOk, All, AllPairs, nat_le, nat_lt, if◌then◌else◌}
 use Rattle.std.proofs.lemmas.Bool.{and_parts, leb-true, ltb-true}
 use Rattle.std.proofs.lemmas.List.{length-drop, length-map, length-take}
-use Rattle.am_office.specs.declared.Entry.{Entry}
+use Rattle.am_office_entries.specs.declared.Entry.{Entry}
 use Rattle.am_scenario.specs.Laws.{SpellsLawful}
 use Rattle.am_scenario_types.specs.Lawful.{IsLawful, IsLawfulEnd}
 use Rattle.am_scenario_types.specs.Lists.{ScenarioLists}
@@ -15,12 +15,12 @@ use Rattle.am_lab_layout.specs.Layout.{IsDrawable}
 use Rattle.am_lab_picture.specs.Data.{PictureLists}
 use Rattle.am_lab_picture.specs.declared.data.Lines.{Lines}
 use Rattle.am_lab_reasons.proofs.Reported.{reported}
-use Rattle.am_lab_view.specs.Parts.{few, is_within, lines_of, part_lines}
-use Rattle.am_lab_view.specs.Pictures.{Shows, picture_by, picture_of}
-use Rattle.am_lab_view.specs.declared.parts.Part.{Part}
-use Rattle.am_lab_view.specs.declared.parts.PictureFault.{PictureFault}
-use Rattle.am_lab_view.specs.declared.parts.PictureFault.TheVariants as Faults
-use Rattle.am_lab_view.specs.Standings.{lane}
+use Rattle.am_lab_drawings.specs.View.Parts.{few, is_within, lines_of, part_lines}
+use Rattle.am_lab_drawings.specs.View.Pictures.{Shows, picture_by, picture_of}
+use Rattle.am_lab_drawings.specs.declared.view.parts.Part.{Part}
+use Rattle.am_lab_drawings.specs.declared.view.parts.PictureFault.{PictureFault}
+use Rattle.am_lab_drawings.specs.declared.view.parts.PictureFault.TheVariants as Faults
+use Rattle.am_lab_drawings.specs.View.Standings.{lane}
 use Rattle.am_lab_picture.specs.Rows.{entries_in, row}
 use Rattle.am_model_scripts.specs.Layout.{layout_of}
 

@@ -2,10 +2,10 @@
 use Rattle.std.specs.Prelude.{◌≡◌, ◌≢◌, ◌⊎◌, ℕ, List, codes, Option, Result, Ok, Err}
 use Rattle.am_lab_chart.specs.Drawing.{svg_of}
 use Rattle.am_lab_picture.specs.Data.{PictureLists}
-use Rattle.am_lab_view.specs.Pictures.{Shows}
-use Rattle.am_lab_view.specs.declared.parts.Part.{Part}
-use Rattle.am_lab_view.specs.declared.parts.PictureFault.{PictureFault}
-use Rattle.am_lab_view.specs.declared.parts.PictureFault.TheVariants as Faults
+use Rattle.am_lab_drawings.specs.View.Pictures.{Shows}
+use Rattle.am_lab_drawings.specs.declared.view.parts.Part.{Part}
+use Rattle.am_lab_drawings.specs.declared.view.parts.PictureFault.{PictureFault}
+use Rattle.am_lab_drawings.specs.declared.view.parts.PictureFault.TheVariants as Faults
 use Rattle.am_main_check.specs.Checks.{CheckAnswers}
 use Rattle.am_main_lines.specs.Lines.{Answer}
 use Rattle.am_scenario_types.specs.declared.parts.Form.{Form}

@@ -2,17 +2,17 @@
 
 ghost use Rattle.am_check.specs.Exact.{IsChecked};
 ghost use Rattle.am_lab_drawings.specs.Charts.{ChartAnswers, drawing_of, no_such_lines, too_many_rows};
-ghost use Rattle.am_lab_view.specs.Pictures.{Shows};
+ghost use Rattle.am_lab_drawings.specs.View.Pictures.{Shows};
 ghost use Rattle.am_main_check.specs.Checks.{CheckAnswers};
 ghost use Rattle.am_main_lines.specs.Lines.{answer_in};
 ghost use Rattle.std.specs.Prelude.{◌≡◌, ◌≢◌, ◌<◌, ◌^◌, Err, IfOk, Result as Either, length};
 ghost use Rattle.am_lab_picture.specs.Data.{PictureLists};
-ghost use Rattle.am_lab_view.specs.declared.parts.PictureFault.{PictureFault as Fault};
-ghost use Rattle.am_lab_view.specs.declared.parts.PictureFault.TheVariants.{NoMemory as Starved};
+ghost use Rattle.am_lab_drawings.specs.declared.view.parts.PictureFault.{PictureFault as Fault};
+ghost use Rattle.am_lab_drawings.specs.declared.view.parts.PictureFault.TheVariants.{NoMemory as Starved};
 
-use am_check_laws::yes_is_true;
+use crate::view::{Part, PictureFault, picture};
+use am_check::laws::yes_is_true;
 use am_lab_chart::chart;
-use am_lab_view::{Part, PictureFault, picture};
 use am_main_check::check_output;
 use am_main_lines::Output;
 use am_names::NoMemory;

@@ -2,5 +2,6 @@
 #![tactic(auto)]
 
 mod charts;
+pub mod view;
 
 pub use crate::charts::chart_output;

@@ -5,7 +5,7 @@ ghost use Rattle.am_lab_layout.specs.Signs as signs;
 ghost use Rattle.am_office_text.specs.Pieces.{word_of};
 
 use am_names::{EndpointId, Message, NodeId};
-use am_office::{Call, Event, Outcome, Received, Refusal};
+use am_office_entries::{Call, Event, Outcome, Received, Refusal};
 use am_office_text::{Piece, cause_word, small, why_word};
 
 /// Where a sign stands.

@@ -5,7 +5,7 @@ ghost use Rattle.am_lab_layout.specs.Words as words;
 
 use am_lab_picture::{Named, Residency};
 use am_names::{MsgKind, Packet};
-use am_office::Fate;
+use am_office_entries::Fate;
 
 /// The class of a fate.
 #[tactic(auto, unfolding(crate::specs::Words::fate_class))]

@@ -9,10 +9,10 @@ use Rattle.am_lemmas.proofs.Lists.{list_any-push}
 use Rattle.am_names.specs.declared.Cause.{Cause}
 use Rattle.am_names.specs.declared.Serial.{Serial}
 use Rattle.am_names.specs.Names.{has_serial}
-use Rattle.am_office.specs.declared.Entry.{Entry}
-use Rattle.am_office.specs.Entries.{accepted_of, is_serial, passes, return_of, run_of, unknown_of}
-use Rattle.am_office.specs.Fates.{cause_of, causes_of, cause_for}
-use Rattle.am_office.proofs.Causes.{cause_of_return}
+use Rattle.am_office_entries.specs.declared.Entry.{Entry}
+use Rattle.am_office_entries.specs.Entries.{accepted_of, is_serial, passes, return_of, run_of, unknown_of}
+use Rattle.am_office_entries.specs.Fates.{cause_of, causes_of, cause_for}
+use Rattle.am_office_entries.proofs.Causes.{cause_of_return}
 use Rattle.am_lab_picture.specs.declared.fates.FateTable.{FateTable}
 use Rattle.am_lab_picture.specs.Fates.{AreFates, cause_in, has}
 

@@ -8,7 +8,7 @@ use Rattle.std.specs.BTreeSet.{BTreeSet}
 use Rattle.std.specs.List.{position_from}
 use Rattle.std.specs.Option.{option_or}
 use Rattle.am_lemmas.proofs.Lists.{list_any-push}
-use Rattle.am_office.specs.declared.Entry.{Entry}
+use Rattle.am_office_entries.specs.declared.Entry.{Entry}
 use Rattle.am_names.specs.declared.Way.{Way}
 use Rattle.am_lab_picture.specs.Ways.{AreEmitters, AreReceived, emits, emitted_way, emitter, has_way, is_received, place_for, place_in, receives}
 

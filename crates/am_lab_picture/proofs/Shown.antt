@@ -7,8 +7,8 @@ use Rattle.std.proofs.lemmas.Bool.{eqb-true}
 use Rattle.am_names.specs.declared.NodeId.{NodeId}
 use Rattle.am_names.specs.declared.Packet.{Packet}
 use Rattle.am_names.specs.declared.Serial.{Serial}
-use Rattle.am_office.specs.Entries.{emitted_of}
-use Rattle.am_office.specs.declared.Entry.{Entry}
+use Rattle.am_office_entries.specs.Entries.{emitted_of}
+use Rattle.am_office_entries.specs.declared.Entry.{Entry}
 use Rattle.am_lab_picture.specs.Abouts.{about_of, reply_of}
 use Rattle.am_lab_picture.specs.Arrows.{arrow, arrow_at, arrow_by, arrow_from, arrow_of, arrow_shown, cross, cross_by, if_shown, is_shown}
 use Rattle.am_lab_picture.specs.Laws.{ArrowsJoinEmissionsToReceipts, CrossesAreOfTheUnreceived, CrossesStandAtEmissions, HasItsFate, IsArrow, IsCross, IsInLine}

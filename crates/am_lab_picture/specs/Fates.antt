@@ -7,8 +7,8 @@ use Rattle.std.specs.BTreeSet as sets
 use Rattle.am_names.specs.declared.Cause.{Cause}
 use Rattle.am_names.specs.declared.Serial.{Serial}
 use Rattle.am_names.specs.Names.{serial_order}
-use Rattle.am_office.specs.declared.Entry.{Entry}
-use Rattle.am_office.specs.Fates.{causes_of, is_accepted, is_run, is_unknown}
+use Rattle.am_office_entries.specs.declared.Entry.{Entry}
+use Rattle.am_office_entries.specs.Fates.{causes_of, is_accepted, is_run, is_unknown}
 use Rattle.am_lab_picture.specs.declared.fates.FateTable.{FateTable}
 
 -- whether a set has a serial

@@ -2,9 +2,9 @@
 use Rattle.std.specs.Prelude.{◌≡◌, ℕ, ◌-◌, ◌≤◌, true, not, List, Some, IfSome, filter, filter_map, map, slice_get}
 use Rattle.std.specs.List.{AllByRecursion}
 use Rattle.am_names.specs.declared.Packet.{Packet}
-use Rattle.am_office.specs.Entries.{emitted_of}
-use Rattle.am_office.specs.Fates.{fate}
-use Rattle.am_office.specs.declared.Entry.{Entry}
+use Rattle.am_office_entries.specs.Entries.{emitted_of}
+use Rattle.am_office_entries.specs.Fates.{fate}
+use Rattle.am_office_entries.specs.declared.Entry.{Entry}
 use Rattle.am_lab_picture.specs.Abouts.{about_of, reply_of}
 use Rattle.am_lab_picture.specs.Arrows.{arrows, counts, crosses}
 use Rattle.am_lab_picture.specs.Rows.{entries_in, named_by, rows}

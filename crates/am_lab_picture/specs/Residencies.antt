@@ -1,7 +1,7 @@
 -- Where an endpoint lies, as its lane shows it.
 use Rattle.std.specs.Prelude.{Bool, true, false, ◌==◌}
-use Rattle.am_office.specs.declared.Place.{Place}
-use Rattle.am_office.specs.declared.Place.TheVariants as Places
+use Rattle.am_office_entries.specs.declared.Place.{Place}
+use Rattle.am_office_entries.specs.declared.Place.TheVariants as Places
 use Rattle.am_lab_picture.specs.declared.data.Residency.{Residency}
 use Rattle.am_lab_picture.specs.declared.data.Residency.TheVariants.{Direct, Draining, Disk, Frame, Host}
 

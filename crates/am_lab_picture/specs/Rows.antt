@@ -2,8 +2,8 @@
 use Rattle.std.specs.Prelude.{◌-◌, Option, List, take, drop, map}
 use Rattle.std.specs.Option.{option_map}
 use Rattle.am_names.specs.declared.Serial.{Serial}
-use Rattle.am_office.specs.declared.Entry.{Entry}
-use Rattle.am_office.specs.Fates.{fate}
+use Rattle.am_office_entries.specs.declared.Entry.{Entry}
+use Rattle.am_office_entries.specs.Fates.{fate}
 use Rattle.am_lab_picture.specs.declared.data.Lines.{Lines}
 use Rattle.am_lab_picture.specs.declared.data.Named.{Named}
 use Rattle.am_lab_picture.specs.declared.data.Row.{Row}

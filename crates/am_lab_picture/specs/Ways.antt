@@ -11,10 +11,10 @@ use Rattle.std.specs.Ordering.{nat_cmp, ordering_then}
 use Rattle.am_names.specs.Names.{same_node}
 use Rattle.am_names.specs.Packets.{way_of}
 use Rattle.am_names.specs.declared.Way.{Way}
-use Rattle.am_office.specs.Entries.{emitted_of}
-use Rattle.am_office.specs.declared.Entry.{Entry}
-use Rattle.am_office.specs.declared.Event.{Event}
-use Rattle.am_office.specs.declared.Event.TheVariants as Events
+use Rattle.am_office_entries.specs.Entries.{emitted_of}
+use Rattle.am_office_entries.specs.declared.Entry.{Entry}
+use Rattle.am_office_entries.specs.declared.Event.{Event}
+use Rattle.am_office_entries.specs.declared.Event.TheVariants as Events
 
 abbrev pub way_order : Way → Way → Ordering
 way_order a b = ordering_then (nat_cmp a.from.0 b.from.0) (ordering_then (nat_cmp a.to.0 b.to.0) (nat_cmp a.number b.number))

@@ -4,7 +4,7 @@ ghost use Rattle.am_lab_picture.specs.Abouts as abouts;
 ghost use Rattle.std.specs.Prelude.{◌≡◌};
 
 use am_names::{Message, Serial};
-use am_office::{Entry, Outcome, given_up_of};
+use am_office_entries::{Entry, Outcome, given_up_of};
 
 fn about_by(given_up: Option<Serial>, outcome: Outcome) -> Option<Serial>
     ensures { result ≡ abouts.about_by given_up outcome }

@@ -1,7 +1,7 @@
 //! The picture as plain data.
 
 use am_names::{EndpointId, NodeId, Packet, Serial, Tag};
-use am_office::{Entry, Fate};
+use am_office_entries::{Entry, Fate};
 use am_scenario_types::Network;
 use std::marker::Model;
 

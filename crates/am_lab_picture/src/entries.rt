@@ -8,7 +8,7 @@ use crate::abouts::{about_of, reply_of};
 use crate::data::{Lines, Named, Row};
 use crate::journals::IndexedJournal;
 use am_names::Serial;
-use am_office::Entry;
+use am_office_entries::Entry;
 use std::alloc::{AllocError, Global};
 
 /// A message with its fate, if there is one.

@@ -3,13 +3,13 @@
 ghost use Rattle.std.specs.Prelude.{◌≡◌, ◌||◌, [], List, IfOk, OnOk};
 ghost use Rattle.std.specs.Option.{option_or};
 ghost use Rattle.am_lab_picture.specs.Fates.{AreFates, cause_in, has};
-ghost use Rattle.am_office.specs.Fates.{cause_for};
+ghost use Rattle.am_office_entries.specs.Fates.{cause_for};
 ghost use Rattle.am_names.specs.Names.{has_serial};
 ghost use Rattle.am_names.specs.declared.Serial.{Serial};
-ghost use Rattle.am_office.specs.Entries.{is_serial, passes};
+ghost use Rattle.am_office_entries.specs.Entries.{is_serial, passes};
 
 use am_names::{Cause, Message, Serial};
-use am_office::{Entry, Fate, accepted_of, return_of, run_of, unknown_of};
+use am_office_entries::{Entry, Fate, accepted_of, return_of, run_of, unknown_of};
 use std::alloc::{AllocError, Global};
 use std::collections::{BTreeMap, BTreeSet};
 
@@ -61,8 +61,8 @@ fn note_return(
 impl FateTable {
     ghost use Rattle.std.specs.Prelude.{◌≡◌, [], ◌∷◌, ◌++◌, List, IfOk, OnOk};
     ghost use Rattle.am_lab_picture.specs.Fates.{AreFates};
-    ghost use Rattle.am_office.specs.Fates.{fate};
-    ghost use Rattle.am_office.specs.declared.Entry.{Entry};
+    ghost use Rattle.am_office_entries.specs.Fates.{fate};
+    ghost use Rattle.am_office_entries.specs.declared.Entry.{Entry};
 
     // Of no entries.
     fn new(alloc: Global) -> Self

@@ -3,7 +3,7 @@
 use crate::fates::FateTable;
 use crate::ways::{emitters_of, received_in};
 use am_names::{NoMemory, Serial, Way};
-use am_office::{Entry, Fate, Journal};
+use am_office_entries::{Entry, Fate, Journal};
 use std::alloc::Global;
 use std::collections::{BTreeMap, BTreeSet};
 use std::marker::Model;
@@ -20,7 +20,7 @@ pub struct IndexedJournal {
 
 impl Model for IndexedJournal {
     ghost use Rattle.std.specs.Prelude.{List};
-    ghost use Rattle.am_office.specs.declared.Entry.{Entry};
+    ghost use Rattle.am_office_entries.specs.declared.Entry.{Entry};
     ghost use Rattle.am_lab_picture.specs.Fates.{AreFates};
     ghost use Rattle.am_lab_picture.specs.Ways.{AreEmitters, AreReceived};
 
@@ -34,7 +34,7 @@ impl Model for IndexedJournal {
 impl IndexedJournal {
     ghost use Rattle.std.specs.Prelude.{◌≡◌, IfOk};
     ghost use Rattle.am_lab_picture.specs.Ways.{emitter, is_received};
-    ghost use Rattle.am_office.specs.Fates.{fate};
+    ghost use Rattle.am_office_entries.specs.Fates.{fate};
 
     /// The journal with its tables, for which it goes over the entries three times. `NoMemory` comes where there is
     /// none for them, and nothing is left of the journal.
@@ -59,7 +59,7 @@ impl IndexedJournal {
         &self.journal.entries
     }
 
-    /// What became of a message (`fate` of am_office). None exactly where no entry accepts it.
+    /// What became of a message (`fate` of am_office_entries). None exactly where no entry accepts it.
     pub fn fate(&self, serial: Serial) -> Option<Fate>
         ensures { result ≡ fate self.now serial }
     {

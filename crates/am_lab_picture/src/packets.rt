@@ -11,7 +11,7 @@ use crate::journals::IndexedJournal;
 use crate::ways::received_way;
 use am_iface::emitted_of;
 use am_names::{Packet, Way};
-use am_office::{Entry, Outcome, Received};
+use am_office_entries::{Entry, Outcome, Received};
 use std::alloc::{AllocError, Global};
 
 fn does_count(received: Received) -> bool

@@ -4,7 +4,7 @@ ghost use Rattle.am_lab_picture.specs.Residencies as residencies;
 ghost use Rattle.std.specs.Prelude.{◌≡◌};
 
 use crate::data::Residency;
-use am_office::Place;
+use am_office_entries::Place;
 
 /// Where an endpoint lies, and in a frame whether it drains (`residency_of` of specs/Residencies).
 pub fn residency_of(place: Place, draining: bool) -> Residency

@@ -8,7 +8,7 @@ ghost use Rattle.am_names.specs.declared.Way.{Way};
 
 use am_iface::emitted_of;
 use am_names::Way;
-use am_office::{Entry, Event};
+use am_office_entries::{Entry, Event};
 use std::alloc::{AllocError, Global};
 use std::collections::{BTreeMap, BTreeSet};
 

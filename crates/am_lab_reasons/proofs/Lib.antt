@@ -1,2 +1,5 @@
 pub mod Joined
 pub mod Reported
+pub mod Again
+pub mod StoppedDue
+pub mod Following

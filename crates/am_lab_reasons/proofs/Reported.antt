@@ -12,7 +12,7 @@ use Rattle.am_check.proofs.Breaks.{behind, count_fits, count_is, rest_is}
 use Rattle.am_check_lines.specs.Grammar.{printed}
 use Rattle.am_lexer.specs.Text.{lines_of}
 use Rattle.am_names.specs.declared.Serial.{Serial}
-use Rattle.am_office.specs.declared.Entry.{Entry}
+use Rattle.am_office_entries.specs.declared.Entry.{Entry}
 use Rattle.am_office_report.specs.Report.{report}
 use Rattle.am_scenario_plan.specs.declared.plan.PlanLine.{PlanLine}
 use Rattle.am_scenario.specs.Grammar.{grammar}
@@ -21,8 +21,8 @@ use Rattle.am_scenario_types.specs.declared.parts.Form.{Form}
 use Rattle.am_scenario_types.specs.Lists.{ScenarioLists}
 use Rattle.am_scenario_types.specs.Lawful.{IsLawful}
 use Rattle.am_model_scripts.specs.Layout.{layout_of}
-use Rattle.am_lab_journal.specs.Lines.{AreLines, HasEnd}
-use Rattle.am_lab_journal.proofs.Again.{are_lines}
+use Rattle.am_lab_reasons.specs.Journal.Lines.{AreLines, HasEnd}
+use Rattle.am_lab_reasons.proofs.Again.{are_lines}
 use Rattle.am_lab_reasons.specs.Reasons.{Tells, TellsOf, reasons}
 
 -- a report, its journal, and what its lines say of it

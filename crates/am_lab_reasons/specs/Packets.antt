@@ -5,9 +5,9 @@ use Rattle.std.specs.List.{list_any}
 use Rattle.am_names.specs.declared.NodeId.{NodeId}
 use Rattle.am_names.specs.declared.Packet.{Packet}
 use Rattle.am_names.specs.Names.{same_node}
-use Rattle.am_office.specs.declared.Entry.{Entry}
-use Rattle.am_office.specs.declared.Event.{Event}
-use Rattle.am_office.specs.declared.Event.TheVariants as Events
+use Rattle.am_office_entries.specs.declared.Entry.{Entry}
+use Rattle.am_office_entries.specs.declared.Event.{Event}
+use Rattle.am_office_entries.specs.declared.Event.TheVariants as Events
 use Rattle.am_model.specs.Packets.{from_of, receiver_of}
 use Rattle.am_scenario_plan.specs.Shape.{fault_at, number_of}
 use Rattle.am_scenario_plan.specs.declared.plan.LinkFault.{LinkFault}

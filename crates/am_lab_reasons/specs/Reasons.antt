@@ -3,15 +3,15 @@ use Rattle.std.specs.Prelude.{◌≡◌, ℕ, Option, Some, None, List, [], ◌+
 use Rattle.std.specs.Fmt.{decimal}
 use Rattle.am_check.specs.Cut.{place_of}
 use Rattle.am_check.specs.Follows.{IsBegun, IsEnded, ids_of}
-use Rattle.am_office_lines.specs.Lines.{line_of}
+use Rattle.am_office_text.specs.EntryLines.Lines.{line_of}
 use Rattle.am_names.specs.declared.Cause.{Cause}
 use Rattle.am_names.specs.declared.Cause.TheVariants as Causes
 use Rattle.am_names.specs.declared.Serial.{Serial}
-use Rattle.am_office.specs.declared.Entry.{Entry}
-use Rattle.am_office.specs.declared.endings.Fate.{Fate}
-use Rattle.am_office.specs.declared.endings.Fate.TheVariants as Fates
-use Rattle.am_office.specs.Entries.{emitted_of}
-use Rattle.am_office.specs.Fates.{fate}
+use Rattle.am_office_entries.specs.declared.Entry.{Entry}
+use Rattle.am_office_entries.specs.declared.endings.Fate.{Fate}
+use Rattle.am_office_entries.specs.declared.endings.Fate.TheVariants as Fates
+use Rattle.am_office_entries.specs.Entries.{emitted_of}
+use Rattle.am_office_entries.specs.Fates.{fate}
 use Rattle.am_scenario_plan.specs.declared.plan.PlanLine.{PlanLine}
 use Rattle.am_office_report.specs.Report.{report}
 use Rattle.am_scenario.specs.Laws.{Spells}

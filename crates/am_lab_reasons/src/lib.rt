@@ -9,16 +9,18 @@ ghost use Rattle.am_scenario_types.specs.Lawful.{IsLawful};
 ghost use Rattle.am_scenario_types.specs.declared.parts.Form.{Form as Kind};
 ghost use Rattle.std.specs.Prelude.{◌≡◌, ◌<◌, ◌^◌, IfOk, length};
 
+pub mod due;
+pub mod journal;
 mod packets;
 mod told;
 mod touches;
 
+use crate::journal::reach_end;
 use crate::told::put_reasons;
 use am_check::place_of;
-use am_lab_journal::reach_end;
 use am_machine::Cluster;
 use am_names::{NoMemory, Serial};
-use am_office::Journal;
+use am_office_entries::Journal;
 use am_scenario::{Form, PlanLine, Scenario, read};
 use std::alloc::Global;
 

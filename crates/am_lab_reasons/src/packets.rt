@@ -7,7 +7,7 @@ ghost use Rattle.am_scenario_plan.specs.declared.plan.LinkFault.TheVariants.{Lat
 ghost use Rattle.std.specs.Prelude.{◌≡◌, ◌<◌, ◌^◌, ◌++◌, OnOk, Some, length};
 
 use am_names::{Packet, Way};
-use am_office::{Entry, Event};
+use am_office_entries::{Entry, Event};
 use am_office_text::Piece::{Number, Text};
 use am_office_text::{count, put_end, put_spaced, put_word, small};
 use am_scenario_plan::{LinkFault, PlanLine};

@@ -1,11 +1,11 @@
 //! Which entries touch a message.
 
 ghost use Rattle.am_lab_reasons.specs.Touches.{is_reply, names, touches};
-ghost use Rattle.am_office.specs.Entries.{is_serial};
+ghost use Rattle.am_office_entries.specs.Entries.{is_serial};
 ghost use Rattle.std.specs.Prelude.{◌≡◌};
 
 use am_names::{Message, Serial};
-use am_office::{Entry, Outcome, given_up_of};
+use am_office_entries::{Entry, Outcome, given_up_of};
 
 fn is_serial(serial: Serial, other: Option<Serial>) -> bool
     ensures { result ≡ is_serial serial other }

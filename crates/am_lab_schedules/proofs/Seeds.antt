@@ -4,10 +4,10 @@ use Rattle.std.proofs.lemmas.List.{map-append}
 use Rattle.std.proofs.lemmas.List.Elements.{All-append, All-cons, All-nil}
 use Rattle.std.specs.List.{range_with_len}
 use Rattle.std.specs.Prelude.{All}
-use Rattle.am_lab_outcomes.specs.Outcomes.{first_fates, outcomes}
-use Rattle.am_lab_outcomes.specs.Telling.{Tells}
-use Rattle.am_lab_outcomes.specs.declared.runs.SeedRun.{SeedRun}
-use Rattle.am_lab_outcomes.specs.declared.telling.Telling.{Telling}
+use Rattle.am_lab_schedules.specs.Outcomes.Outcomes.{first_fates, outcomes}
+use Rattle.am_lab_schedules.specs.Outcomes.Telling.{Tells}
+use Rattle.am_lab_schedules.specs.declared.outcomes.runs.SeedRun.{SeedRun}
+use Rattle.am_lab_schedules.specs.declared.outcomes.telling.Telling.{Telling}
 use Rattle.am_lab_schedules.specs.Schedules.{IsMade, TellsRuns, seeds_of}
 use Rattle.am_lab_schedules.specs.Told.{AreTold}
 use Rattle.am_main_lines.specs.Lines.{answer_in}

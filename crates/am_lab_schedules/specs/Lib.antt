@@ -1,2 +1,4 @@
 pub mod Schedules
 pub mod Told
+pub mod Distinct
+pub mod Outcomes

@@ -2,12 +2,12 @@
 use Rattle.std.specs.Prelude.{◌≡◌, ℕ, ◌-◌, Option, Some, None, List, map, Result, Ok, Err, All}
 use Rattle.std.specs.List.{range_with_len}
 use Rattle.am_cluster.specs.Runs.{IsRunCutOff}
-use Rattle.am_lab_outcomes.specs.Outcomes.{outcomes}
-use Rattle.am_lab_outcomes.specs.declared.runs.SeedRun.{SeedRun}
+use Rattle.am_lab_schedules.specs.Outcomes.Outcomes.{outcomes}
+use Rattle.am_lab_schedules.specs.declared.outcomes.runs.SeedRun.{SeedRun}
 use Rattle.am_main_lines.specs.Lines.{Answer, refusal}
 use Rattle.am_main_run.specs.Runs.{IsRunOf}
-use Rattle.am_office.specs.declared.Entry.{Entry}
-use Rattle.am_office.specs.declared.Part.{Part}
+use Rattle.am_office_entries.specs.declared.Entry.{Entry}
+use Rattle.am_office_entries.specs.declared.Part.{Part}
 use Rattle.am_scenario_types.specs.declared.faults.ScenarioFault.{ScenarioFault}
 use Rattle.am_scenario_types.specs.Lists.{ScenarioLists}
 

@@ -1,9 +1,9 @@
 -- How far the runs of many seeds are told.
 use Rattle.std.specs.Prelude.{ℕ, List}
-use Rattle.am_lab_outcomes.specs.Outcomes.{first_fates}
-use Rattle.am_lab_outcomes.specs.Telling.{Tells}
-use Rattle.am_lab_outcomes.specs.declared.runs.SeedRun.{SeedRun}
-use Rattle.am_lab_outcomes.specs.declared.telling.Telling.{Telling}
+use Rattle.am_lab_schedules.specs.Outcomes.Outcomes.{first_fates}
+use Rattle.am_lab_schedules.specs.Outcomes.Telling.{Tells}
+use Rattle.am_lab_schedules.specs.declared.outcomes.runs.SeedRun.{SeedRun}
+use Rattle.am_lab_schedules.specs.declared.outcomes.telling.Telling.{Telling}
 use Rattle.am_lab_schedules.specs.Schedules.{AreRunsOf}
 use Rattle.am_scenario_types.specs.Lists.{ScenarioLists}
 

@@ -1,6 +1,9 @@
 //! What `am2_lab schedule SEED..SEED2` prints: a line for the run of each seed, and how many distinct journals there were.
 #![tactic(auto)]
 
+pub mod distinct;
+pub mod one_seed;
+pub mod outcomes;
 mod schedules;
 
 pub use crate::schedules::schedules_output;

@@ -9,9 +9,9 @@ ghost use Rattle.am_scenario_types.specs.declared.parts.Form.TheVariants as Form
 ghost use Rattle.am_scenario_types.specs.declared.parts.Network.TheVariants as Networks;
 ghost use Rattle.std.specs.Prelude.{◌≡◌, ◌+◌, ◌<◌, IfErr, IfOk, ℕ};
 
+use crate::outcomes::{SeedRun, Telling};
 use am_cluster::{Finished, RunFault};
 use am_cluster_schedule::run_scheduled;
-use am_lab_outcomes::{SeedRun, Telling};
 use am_main_lines::{Output, fault_output};
 use am_names::NoMemory;
 use am_scenario::{Form, ReadFault, Scenario, read};

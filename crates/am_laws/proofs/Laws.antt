@@ -1,16 +1,16 @@
 -- The laws of the post office, all together.
 use Rattle.std.proofs.Common.{List}
-use Rattle.am_office.specs.declared.Entry.{Entry}
+use Rattle.am_office_entries.specs.declared.Entry.{Entry}
 use Rattle.am_model.specs.Layout.{Layout, IsLawful}
 use Rattle.am_model.specs.History.{IsHistory}
 use Rattle.am_model.specs.PostOffice.{PostOffice}
-use Rattle.am_laws_messages.proofs.Asked.{accepted_once}
-use Rattle.am_laws_messages.proofs.Delivered.{put_and_run_once, tags_match}
-use Rattle.am_laws_replies.proofs.Credited.{one_reply_per_run}
-use Rattle.am_laws_fates.proofs.Balance.{unknown_once, bounces_bounded}
-use Rattle.am_laws_fates.proofs.Returned.{returned_never_ran}
-use Rattle.am_laws_fates.proofs.Notices.{one_zero}
-use Rattle.am_laws_credits.proofs.Law.{credits_hold}
+use Rattle.am_laws.proofs.Asked.{accepted_once}
+use Rattle.am_laws.proofs.Delivered.{put_and_run_once, tags_match}
+use Rattle.am_laws.proofs.Credited.{one_reply_per_run}
+use Rattle.am_laws.proofs.Balance.{unknown_once, bounces_bounded}
+use Rattle.am_laws.proofs.Returned.{returned_never_ran}
+use Rattle.am_laws.proofs.Notices.{one_zero}
+use Rattle.am_laws.proofs.Law.{credits_hold}
 
 pub post_office : (layout : Layout) (journal : List Entry) → IsLawful layout → IsHistory layout journal → PostOffice layout journal
 post_office layout journal lawful h =

@@ -7,29 +7,29 @@ use Rattle.std.specs.List.{list_any, filter_map, cons_option}
 use Rattle.am_lemmas.proofs.Lists.{count_by-none, list_any-counts}
 use Rattle.am_names.specs.declared.Serial.{Serial}
 use Rattle.am_names.specs.declared.Cause.{Cause}
-use Rattle.am_office.specs.declared.Event.{Event}
-use Rattle.am_office.specs.declared.Event.TheVariants as Events
-use Rattle.am_office.specs.declared.Received.TheVariants as Got
-use Rattle.am_office.specs.declared.Outcome.{Outcome}
-use Rattle.am_office.specs.declared.Outcome.TheVariants as Out
-use Rattle.am_office.specs.declared.Entry.{Entry}
+use Rattle.am_office_entries.specs.declared.Event.{Event}
+use Rattle.am_office_entries.specs.declared.Event.TheVariants as Events
+use Rattle.am_office_entries.specs.declared.Received.TheVariants as Got
+use Rattle.am_office_entries.specs.declared.Outcome.{Outcome}
+use Rattle.am_office_entries.specs.declared.Outcome.TheVariants as Out
+use Rattle.am_office_entries.specs.declared.Entry.{Entry}
 use Rattle.am_names.specs.Names.{same_serial, has_serial}
-use Rattle.am_office.specs.Entries.{accepted_of, run_of, returned_in, returned_of, unknown_of, passes, is_serial}
+use Rattle.am_office_entries.specs.Entries.{accepted_of, run_of, returned_in, returned_of, unknown_of, passes, is_serial}
 use Rattle.am_model.specs.Layout.{Layout}
 use Rattle.am_model.specs.Channels.{attempt}
 use Rattle.am_model.specs.History.{IsHistory}
 use Rattle.am_model.specs.PostOffice.{times, times_serial, Gave}
 use Rattle.am_model.proofs.Names.{same_serial-is, same_serial-refl}
 use Rattle.am_model.proofs.Received.{bit}
-use Rattle.am_laws_order.proofs.Everywhere.{each_once}
-use Rattle.am_office.specs.declared.endings.Fate.{Fate}
-use Rattle.am_office.specs.declared.endings.Fate.TheVariants as Fates
-use Rattle.am_office.specs.Fates.{fate_by, cause_of, cause_if}
-use Rattle.am_office.specs.Entries.{return_of, return_in}
+use Rattle.am_laws.proofs.Everywhere.{each_once}
+use Rattle.am_office_entries.specs.declared.endings.Fate.{Fate}
+use Rattle.am_office_entries.specs.declared.endings.Fate.TheVariants as Fates
+use Rattle.am_office_entries.specs.Fates.{fate_by, cause_of, cause_if}
+use Rattle.am_office_entries.specs.Entries.{return_of, return_in}
 use Rattle.am_model.specs.PostOffice.{StaysReturned}
-use Rattle.am_laws_fates.proofs.Balance.{unknown_once}
-use Rattle.am_laws_fates.proofs.Returned.{returned_never_ran}
-use Rattle.am_laws_fates.proofs.Numbers.{some_pair}
+use Rattle.am_laws.proofs.Balance.{unknown_once}
+use Rattle.am_laws.proofs.Returned.{returned_never_ran}
+use Rattle.am_laws.proofs.Numbers.{some_pair}
 use Rattle.am_laws.specs.Fates.{Became, IsFate, IsFated, HasOneFate}
 
 -- what is there, and what is not, by its count

@@ -2,11 +2,11 @@
 use Rattle.std.specs.Prelude.{◌≡◌, ℕ, MatchOption, List}
 use Rattle.am_names.specs.declared.Serial.{Serial}
 use Rattle.am_names.specs.Names.{has_serial}
-use Rattle.am_office.specs.declared.Entry.{Entry}
-use Rattle.am_office.specs.declared.endings.Fate.{Fate}
-use Rattle.am_office.specs.declared.endings.Fate.TheVariants as Fates
-use Rattle.am_office.specs.Entries.{accepted_of, put_of, run_of, returned_of, unknown_of, return_of}
-use Rattle.am_office.specs.Fates.{fate}
+use Rattle.am_office_entries.specs.declared.Entry.{Entry}
+use Rattle.am_office_entries.specs.declared.endings.Fate.{Fate}
+use Rattle.am_office_entries.specs.declared.endings.Fate.TheVariants as Fates
+use Rattle.am_office_entries.specs.Entries.{accepted_of, put_of, run_of, returned_of, unknown_of, return_of}
+use Rattle.am_office_entries.specs.Fates.{fate}
 use Rattle.am_model.specs.PostOffice.{Gave, times, times_serial}
 
 -- so many entries return the serial, leave it unknown and run it

@@ -6,8 +6,14 @@ ghost use Rattle.am_model.specs.History.{IsHistory};
 ghost use Rattle.am_model.specs.Layout.{IsLawful, Layout};
 ghost use Rattle.am_model.specs.PostOffice.{PostOffice};
 ghost use Rattle.am_names.specs.declared.Serial.{Serial};
-ghost use Rattle.am_office.specs.declared.Entry.{Entry};
+ghost use Rattle.am_office_entries.specs.declared.Entry.{Entry};
 ghost use Rattle.std.specs.Prelude.{List};
+
+pub mod credits;
+pub mod fates;
+pub mod messages;
+pub mod order;
+pub mod replies;
 
 /// Each history of a lawful layout obeys all nine laws of the post office, on either network, with
 /// a pool or without: whatever is lost, repeated, late, out of order or given up, and wherever the

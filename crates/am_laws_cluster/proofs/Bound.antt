@@ -9,20 +9,20 @@ use Rattle.am_names.specs.declared.EndpointId.{EndpointId}
 use Rattle.am_names.specs.declared.NodeId.{NodeId}
 use Rattle.am_names.specs.declared.Serial.{Serial}
 use Rattle.am_names.specs.declared.Message.{Message}
-use Rattle.am_office.specs.declared.Event.{Event}
-use Rattle.am_office.specs.declared.Event.TheVariants as Events
-use Rattle.am_office.specs.declared.Received.TheVariants as Got
-use Rattle.am_office.specs.declared.Outcome.{Outcome}
-use Rattle.am_office.specs.declared.Outcome.TheVariants as Out
-use Rattle.am_office.specs.declared.Entry.{Entry}
+use Rattle.am_office_entries.specs.declared.Event.{Event}
+use Rattle.am_office_entries.specs.declared.Event.TheVariants as Events
+use Rattle.am_office_entries.specs.declared.Received.TheVariants as Got
+use Rattle.am_office_entries.specs.declared.Outcome.{Outcome}
+use Rattle.am_office_entries.specs.declared.Outcome.TheVariants as Out
+use Rattle.am_office_entries.specs.declared.Entry.{Entry}
 use Rattle.am_names.specs.Names.{same_end, same_node, same_serial, has_serial}
 use Rattle.am_model.specs.Choice.{without_first}
 use Rattle.am_model.specs.declared.Flying.{Flying}
-use Rattle.am_office.specs.declared.Place.{Place}
-use Rattle.am_office.specs.declared.Place.TheVariants.{Host, Disk, Frame, Direct}
+use Rattle.am_office_entries.specs.declared.Place.{Place}
+use Rattle.am_office_entries.specs.declared.Place.TheVariants.{Host, Disk, Frame, Direct}
 use Rattle.am_model.specs.Endpoint.{State, is_direct, is_in_a_frame, is_resident}
 use Rattle.am_model.specs.Changes.{changed, settled_in}
-use Rattle.am_office.specs.Entries.{ends_touched, touches}
+use Rattle.am_office_entries.specs.Entries.{ends_touched, touches}
 use Rattle.am_model.specs.Layout.{Layout, AllAre, EndSetting, declared, has_id, opening_by, home, IsLawful}
 use Rattle.am_model.specs.Channels.{Channel, bound_message, attempt, sent_message}
 use Rattle.am_model.specs.History.{state_of, MayFollow, IsHistory}
@@ -32,30 +32,30 @@ use Rattle.am_model.proofs.Names.{same_serial-refl, same_end-refl, same_end-is, 
 use Rattle.am_model.proofs.Received.{bit}
 use Rattle.am_model.proofs.Books.{fits_direct}
 use Rattle.am_model.proofs.Queues.{FitsDirect}
-use Rattle.am_laws_order.proofs.Waiting.{bound_at, IsFront}
-use Rattle.am_laws_order.proofs.Everywhere.{each_once}
-use Rattle.am_laws_messages.proofs.Alls.{all_map}
-use Rattle.am_laws_messages.proofs.Delivered.{Delivers, delivers}
-use Rattle.am_laws_messages.proofs.Sent.{FitsSend, fits_send}
-use Rattle.am_laws_replies.proofs.Gave.{accepted_one}
-use Rattle.am_office.specs.declared.Condition.TheVariants as Needs
+use Rattle.am_laws.proofs.Waiting.{bound_at, IsFront}
+use Rattle.am_laws.proofs.Everywhere.{each_once}
+use Rattle.am_laws.proofs.Alls.{all_map}
+use Rattle.am_laws.proofs.Delivered.{Delivers, delivers}
+use Rattle.am_laws.proofs.Sent.{FitsSend, fits_send}
+use Rattle.am_laws.proofs.Gave.{accepted_one}
+use Rattle.am_office_entries.specs.declared.Condition.TheVariants as Needs
 use Rattle.am_model.specs.Layout.{AreApart, home_by}
 use Rattle.am_model.specs.Channels.{binds, frees}
 use Rattle.am_model.specs.History.{failing, is_home}
 use Rattle.am_model.specs.Cluster.{InFlightIsBound, IsHeldOnce, IsFlying}
 use Rattle.am_model.proofs.Ends.{bound_push}
 use Rattle.am_model.proofs.Channels.{freeing_sends_nothing}
-use Rattle.am_laws_order.proofs.Senders.{sender, same_channel-is}
-use Rattle.am_laws_order.proofs.Effects.{Effect, Keeps, Binds, Refuses, Ends, IsSame, IsFreedAt, effect}
-use Rattle.am_laws_messages.proofs.Sent.{front_are}
-use Rattle.am_laws_fates.proofs.Aloft.{flight_weight}
-use Rattle.am_laws_fates.proofs.Flown.{one, flown, kept_flights, one_channel}
-use Rattle.am_laws_fates.proofs.Numbers.{own_are}
-use Rattle.am_laws_fates.proofs.Balance.{balanced}
-use Rattle.am_laws_credits.proofs.Tables.{flights_kept}
-use Rattle.am_laws_credits.proofs.Marked.{all_both, every, flights_own}
-use Rattle.am_laws_replies.proofs.Gave.{accepted_one}
-use Rattle.am_laws_homes.proofs.Places.{fits_network}
+use Rattle.am_laws.proofs.Senders.{sender, same_channel-is}
+use Rattle.am_laws.proofs.Effects.{Effect, Keeps, Binds, Refuses, Ends, IsSame, IsFreedAt, effect}
+use Rattle.am_laws.proofs.Sent.{front_are}
+use Rattle.am_laws.proofs.Aloft.{flight_weight}
+use Rattle.am_laws.proofs.Flown.{one, flown, kept_flights, one_channel}
+use Rattle.am_laws.proofs.Numbers.{own_are}
+use Rattle.am_laws.proofs.Balance.{balanced}
+use Rattle.am_laws.proofs.Tables.{flights_kept}
+use Rattle.am_laws.proofs.Marked.{all_both, every, flights_own}
+use Rattle.am_laws.proofs.Gave.{accepted_one}
+use Rattle.am_laws_cluster.proofs.HomePlaces.{fits_network}
 use Rattle.am_laws_cluster.proofs.Flights.{flights_of, all_aloft, open_aloft, third_none}
 use Rattle.am_model.proofs.Counts.{any}
 use Rattle.am_model.proofs.PlaceKinds.{resident_is_framed}
@@ -421,7 +421,7 @@ flies layout packet past h k c m is =
     low : 1 ≤ flown layout past m.serial
     low = (kept_flights layout packet past h).flown c m is
 
-    fewer : (xs : List Flying) → flight_weight (one m.serial) xs ≤ flight_weight (Rattle.am_laws_endpoints.proofs.Pools.passing any) xs
+    fewer : (xs : List Flying) → flight_weight (one m.serial) xs ≤ flight_weight (Rattle.am_laws_cluster.proofs.Pools.passing any) xs
     fewer [] = omega arith
     fewer (f ∷ xs) = omega (
       arith,

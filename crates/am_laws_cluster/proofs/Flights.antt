@@ -9,16 +9,16 @@ use Rattle.am_names.specs.declared.EndpointId.{EndpointId}
 use Rattle.am_names.specs.declared.Serial.{Serial}
 use Rattle.am_names.specs.declared.Cause.TheVariants.{NotResident}
 use Rattle.am_names.specs.declared.Message.{Message}
-use Rattle.am_office.specs.declared.Actor.{Actor}
-use Rattle.am_office.specs.declared.Call.{Call}
-use Rattle.am_office.specs.declared.Call.TheVariants as Calls
-use Rattle.am_office.specs.declared.Event.{Event}
-use Rattle.am_office.specs.declared.Event.TheVariants as Events
-use Rattle.am_office.specs.declared.Received.{Received}
-use Rattle.am_office.specs.declared.Received.TheVariants as Got
-use Rattle.am_office.specs.declared.Outcome.{Outcome}
-use Rattle.am_office.specs.declared.Outcome.TheVariants as Out
-use Rattle.am_office.specs.declared.Entry.{Entry}
+use Rattle.am_office_entries.specs.declared.Actor.{Actor}
+use Rattle.am_office_entries.specs.declared.Call.{Call}
+use Rattle.am_office_entries.specs.declared.Call.TheVariants as Calls
+use Rattle.am_office_entries.specs.declared.Event.{Event}
+use Rattle.am_office_entries.specs.declared.Event.TheVariants as Events
+use Rattle.am_office_entries.specs.declared.Received.{Received}
+use Rattle.am_office_entries.specs.declared.Received.TheVariants as Got
+use Rattle.am_office_entries.specs.declared.Outcome.{Outcome}
+use Rattle.am_office_entries.specs.declared.Outcome.TheVariants as Out
+use Rattle.am_office_entries.specs.declared.Entry.{Entry}
 use Rattle.am_names.specs.Names.{same_end}
 use Rattle.am_model.specs.declared.Queued.{Queued}
 use Rattle.am_model.specs.declared.Flying.{Flying}
@@ -26,30 +26,30 @@ use Rattle.am_model.specs.declared.Notice.{Notice}
 use Rattle.am_model.specs.Endpoint.{State, Body, is_resident, front_of, front}
 use Rattle.am_model.specs.Calls.{outcome_of_call, is_idle, messages_held, answer}
 use Rattle.am_model.specs.Changes.{called, left, reached, paged_out, paged_in, changed, put, received, expired, bound, without_flight}
-use Rattle.am_office.specs.Entries.{accepted_by, put_of, run_by, ends_touched, touches}
+use Rattle.am_office_entries.specs.Entries.{accepted_by, put_of, run_by, ends_touched, touches}
 use Rattle.am_model.specs.Layout.{Layout, EndSetting, has_id, opening_by}
 use Rattle.am_model.specs.Channels.{attempt}
 use Rattle.am_model.specs.History.{state_of, MayFollow, IsHistory}
 use Rattle.am_model.proofs.Each.{over_each, each_push, state_of_push}
 use Rattle.am_model.proofs.Received.{one_touched, FitsCall}
 use Rattle.am_model.proofs.Books.{fits_call}
-use Rattle.am_laws_messages.proofs.Delivered.{delivers, put_facts}
-use Rattle.am_laws_messages.proofs.Sent.{fits_send}
-use Rattle.am_office.specs.declared.Place.{Place}
-use Rattle.am_office.specs.declared.Place.TheVariants.{Frame, Host, Disk, Direct}
-use Rattle.am_office.specs.declared.Condition.{Condition}
-use Rattle.am_office.specs.declared.Condition.TheVariants as Needs
+use Rattle.am_laws.proofs.Delivered.{delivers, put_facts}
+use Rattle.am_laws.proofs.Sent.{fits_send}
+use Rattle.am_office_entries.specs.declared.Place.{Place}
+use Rattle.am_office_entries.specs.declared.Place.TheVariants.{Frame, Host, Disk, Direct}
+use Rattle.am_office_entries.specs.declared.Condition.{Condition}
+use Rattle.am_office_entries.specs.declared.Condition.TheVariants as Needs
 use Rattle.am_model.specs.Endpoint.{is_on_host, is_on_disk}
 use Rattle.am_model.specs.History.{failing, is_home}
 use Rattle.am_model.proofs.Own.{is_call}
 use Rattle.am_model.proofs.Received.{weight, run_at, put_at, changed_received}
 use Rattle.am_model.proofs.Unchanged.{called_place, reached_place, received_place, expired_place, bound_place, paged_out_closed, paged_in_closed}
 use Rattle.am_model.proofs.Names.{same_end-is}
-use Rattle.am_laws_messages.proofs.Held.{unless_busy, IsWelcome}
-use Rattle.am_laws_replies.proofs.Credited.{made}
-use Rattle.am_laws_fates.proofs.Aloft.{queue_weight, flight_weight, one_weight, newly, entry_moves, marked_weighs, landed_weighs}
-use Rattle.am_laws_fates.proofs.Flown.{called_flown, left_flown, reached_flown, out_flown, in_flown}
-use Rattle.am_laws_endpoints.proofs.Pools.{all_of, back_of, passing, no_more}
+use Rattle.am_laws.proofs.Held.{unless_busy, IsWelcome}
+use Rattle.am_laws.proofs.Credited.{made}
+use Rattle.am_laws.proofs.Aloft.{queue_weight, flight_weight, one_weight, newly, entry_moves, marked_weighs, landed_weighs}
+use Rattle.am_laws.proofs.Flown.{called_flown, left_flown, reached_flown, out_flown, in_flown}
+use Rattle.am_laws_cluster.proofs.Pools.{all_of, back_of, passing, no_more}
 use Rattle.am_model.proofs.Counts.{any}
 
 -- A closed endpoint has no messages.

@@ -15,18 +15,18 @@ use Rattle.am_names.specs.declared.Message.{Message}
 use Rattle.am_names.specs.declared.AnswerPacket.{AnswerPacket}
 use Rattle.am_names.specs.declared.Packet.{Packet}
 use Rattle.am_names.specs.declared.Packet.TheVariants as Packets
-use Rattle.am_office.specs.declared.Event.{Event}
-use Rattle.am_office.specs.declared.Event.TheVariants as Events
-use Rattle.am_office.specs.declared.Received.{Received}
-use Rattle.am_office.specs.declared.Received.TheVariants as Got
-use Rattle.am_office.specs.declared.Outcome.{Outcome}
-use Rattle.am_office.specs.declared.Outcome.TheVariants as Out
-use Rattle.am_office.specs.declared.Entry.{Entry}
+use Rattle.am_office_entries.specs.declared.Event.{Event}
+use Rattle.am_office_entries.specs.declared.Event.TheVariants as Events
+use Rattle.am_office_entries.specs.declared.Received.{Received}
+use Rattle.am_office_entries.specs.declared.Received.TheVariants as Got
+use Rattle.am_office_entries.specs.declared.Outcome.{Outcome}
+use Rattle.am_office_entries.specs.declared.Outcome.TheVariants as Out
+use Rattle.am_office_entries.specs.declared.Entry.{Entry}
 use Rattle.am_names.specs.Names.{same_end, same_serial, has_serial}
 use Rattle.am_model.specs.declared.Flying.{Flying}
 use Rattle.am_model.specs.Endpoint.{verdict}
 use Rattle.am_model.specs.Changes.{flying_of}
-use Rattle.am_office.specs.Entries.{accepted_of, put_in, put_of, run_by, run_in, run_of, returned_in, returned_of, unknown_in, unknown_of, touches, passes}
+use Rattle.am_office_entries.specs.Entries.{accepted_of, put_in, put_of, run_by, run_in, run_of, returned_in, returned_of, unknown_in, unknown_of, touches, passes}
 use Rattle.am_model.specs.Layout.{Layout, EndSetting, has_id, opening_by}
 use Rattle.am_model.specs.Channels.{Channel, Arrival, Stale, Again, Fresh, bound_message, emitted, arrival, mark, sequence, attempt}
 use Rattle.am_model.specs.History.{state_of, MayFollow, IsHistory, outcome_of, receive, arrive, decided, settle, settle_by, counts, bounced, channel_to}
@@ -36,28 +36,28 @@ use Rattle.am_model.proofs.Each.{over_each, each_push}
 use Rattle.am_model.proofs.Names.{same_serial-is, same_serial-refl, same_end-refl, same_end-is}
 use Rattle.am_model.proofs.Received.{bit}
 use Rattle.am_model.proofs.Books.{role_push}
-use Rattle.am_laws_order.proofs.Everywhere.{each_once}
-use Rattle.am_laws_messages.proofs.Alls.{all_found}
+use Rattle.am_laws.proofs.Everywhere.{each_once}
+use Rattle.am_laws.proofs.Alls.{all_found}
 use Rattle.std.proofs.lemmas.List.Sums.{sum_by-le-sum_by}
 use Rattle.am_model.specs.Cluster.{OneLiveSequence, count_queued, count_flying, answer_channel, other_end}
 use Rattle.am_model.specs.PostOffice.{only_if}
 use Rattle.am_model.proofs.Received.{held, weight, run_at, put_at}
 use Rattle.am_model.proofs.Books.{ReceivedBalance, balance_received, count_role}
 use Rattle.am_model.proofs.Ends.{EmittedIn, was_emitted}
-use Rattle.am_laws_order.proofs.Waiting.{weight_serial}
-use Rattle.am_laws_order.proofs.Once.{put_apart_all, runs_somewhere, put_at_le}
-use Rattle.am_laws_order.proofs.Senders.{sender}
-use Rattle.am_laws_order.proofs.Parcels.{IsOf}
-use Rattle.am_laws_order.proofs.Effects.{link_of_answer}
-use Rattle.am_laws_fates.proofs.Numbers.{end_in, end_of_entry}
-use Rattle.am_laws_fates.proofs.Balance.{balanced, serial_push}
-use Rattle.am_laws_fates.proofs.Ledger.{found_serial}
-use Rattle.am_laws_credits.proofs.Given.{gave_times}
-use Rattle.am_laws_credits.proofs.Marked.{replied, flags}
-use Rattle.am_laws_credits.proofs.Puts.{put_reply}
-use Rattle.am_laws_channels.proofs.Sent.{sendings}
-use Rattle.am_laws_channels.proofs.Taken.{takings}
-use Rattle.am_laws_channels.proofs.Answers.{replies}
+use Rattle.am_laws.proofs.Waiting.{weight_serial}
+use Rattle.am_laws.proofs.Once.{put_apart_all, runs_somewhere, put_at_le}
+use Rattle.am_laws.proofs.Senders.{sender}
+use Rattle.am_laws.proofs.OrderedParcels.{IsOf}
+use Rattle.am_laws.proofs.Effects.{link_of_answer}
+use Rattle.am_laws.proofs.Numbers.{end_in, end_of_entry}
+use Rattle.am_laws.proofs.Balance.{balanced, serial_push}
+use Rattle.am_laws.proofs.Ledger.{found_serial}
+use Rattle.am_laws.proofs.Given.{gave_times}
+use Rattle.am_laws.proofs.Marked.{replied, flags}
+use Rattle.am_laws.proofs.CreditPuts.{put_reply}
+use Rattle.am_laws_cluster.proofs.Sent.{sendings}
+use Rattle.am_laws_cluster.proofs.Taken.{takings}
+use Rattle.am_laws_cluster.proofs.Answers.{replies}
 use Rattle.am_laws_cluster.proofs.Sequences.{live}
 
 -- what was put is received, or has run

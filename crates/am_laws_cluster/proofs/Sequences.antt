@@ -17,17 +17,17 @@ use Rattle.am_names.specs.declared.Message.{Message}
 use Rattle.am_names.specs.declared.AnswerPacket.{AnswerPacket}
 use Rattle.am_names.specs.declared.Packet.{Packet}
 use Rattle.am_names.specs.declared.Packet.TheVariants as Packets
-use Rattle.am_office.specs.declared.Event.{Event}
-use Rattle.am_office.specs.declared.Event.TheVariants as Events
-use Rattle.am_office.specs.declared.Received.TheVariants as Got
-use Rattle.am_office.specs.declared.Outcome.{Outcome}
-use Rattle.am_office.specs.declared.Outcome.TheVariants as Out
-use Rattle.am_office.specs.declared.Entry.{Entry}
+use Rattle.am_office_entries.specs.declared.Event.{Event}
+use Rattle.am_office_entries.specs.declared.Event.TheVariants as Events
+use Rattle.am_office_entries.specs.declared.Received.TheVariants as Got
+use Rattle.am_office_entries.specs.declared.Outcome.{Outcome}
+use Rattle.am_office_entries.specs.declared.Outcome.TheVariants as Out
+use Rattle.am_office_entries.specs.declared.Entry.{Entry}
 use Rattle.am_names.specs.Names.{same_serial, has_serial}
 use Rattle.am_model.specs.declared.Queued.{Queued}
 use Rattle.am_model.specs.Endpoint.{State, verdict, front}
 use Rattle.am_model.specs.Changes.{flying_of}
-use Rattle.am_office.specs.Entries.{accepted_in, accepted_of, passes}
+use Rattle.am_office_entries.specs.Entries.{accepted_in, accepted_of, passes}
 use Rattle.am_model.specs.Layout.{Layout, EndSetting, has_id, home, opening_by}
 use Rattle.am_model.specs.Channels.{Channel, Arrival, Stale, Again, Fresh, arrival, attempt, binds, bound_message, emitted, frees, mark, sent_message, sequence}
 use Rattle.am_model.specs.History.{state_of, MayFollow, IsHistory, outcome_of, bind, bind_to, receive, arrive, decided, settle, settle_by, counts, bounced}
@@ -40,10 +40,10 @@ use Rattle.am_model.proofs.Received.{bit}
 use Rattle.am_model.proofs.Books.{role_push, fits_direct}
 use Rattle.am_model.proofs.Queues.{FitsDirect}
 use Rattle.am_model.proofs.Ends.{bound_push, sequence_push}
-use Rattle.am_laws_order.proofs.Everywhere.{each_once}
-use Rattle.am_laws_order.proofs.Packets.{kept_packets, waiting, waiting_more}
-use Rattle.am_laws_order.proofs.Senders.{SenderMoves, sender, sender_moves, same_channel-is}
-use Rattle.am_laws_order.proofs.Waiting.{bound_at, requeued_in, weight_serial}
+use Rattle.am_laws.proofs.Everywhere.{each_once}
+use Rattle.am_laws.proofs.OrderedPackets.{kept_packets, waiting, waiting_more}
+use Rattle.am_laws.proofs.Senders.{SenderMoves, sender, sender_moves, same_channel-is}
+use Rattle.am_laws.proofs.Waiting.{bound_at, requeued_in, weight_serial}
 
 -- the sequences that a message has, one entry more
 bound_more : (s : Serial) (past : List Entry) (x : Entry) (w : Option (Channel × ℕ)) → sequence_bound_in s x.event x.outcome ≡ w →

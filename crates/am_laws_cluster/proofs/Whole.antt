@@ -1,16 +1,16 @@
 -- The whole invariant of the cluster.
 use Rattle.std.proofs.Common.{List}
-use Rattle.am_office.specs.declared.Entry.{Entry}
+use Rattle.am_office_entries.specs.declared.Entry.{Entry}
 use Rattle.am_model.specs.Layout.{Layout, IsLawful}
 use Rattle.am_model.specs.History.{IsHistory}
 use Rattle.am_model.specs.Cluster.{ClusterInvariant}
-use Rattle.am_laws_channels.proofs.Sent.{parcels_fit, mark_of}
-use Rattle.am_laws_channels.proofs.Answers.{answers_true, ended_put_nothing}
-use Rattle.am_laws_endpoints.proofs.Arrived.{arrived_matches, received_tags}
-use Rattle.am_laws_endpoints.proofs.Open.{waiting_open}
+use Rattle.am_laws_cluster.proofs.Sent.{parcels_fit, mark_of}
+use Rattle.am_laws_cluster.proofs.Answers.{answers_true, ended_put_nothing}
+use Rattle.am_laws_cluster.proofs.Arrived.{arrived_matches, received_tags}
+use Rattle.am_laws_cluster.proofs.Open.{waiting_open}
 use Rattle.am_laws_cluster.proofs.Live.{one_live}
-use Rattle.am_laws_endpoints.proofs.Bounced.{bounces_are}
-use Rattle.am_laws_endpoints.proofs.Pools.{pools_bounded}
+use Rattle.am_laws_cluster.proofs.Bounced.{bounces_are}
+use Rattle.am_laws_cluster.proofs.Pools.{pools_bounded}
 use Rattle.am_laws_cluster.proofs.Bound.{in_flight_bound}
 
 pub cluster_holds : (layout : Layout) (past : List Entry) → IsLawful layout → IsHistory layout past → ClusterInvariant layout past

@@ -4,8 +4,15 @@
 ghost use Rattle.am_model.specs.Cluster.{ClusterInvariant, InFlightIsBound, OneLiveSequence};
 ghost use Rattle.am_model.specs.History.{IsHistory};
 ghost use Rattle.am_model.specs.Layout.{IsLawful, Layout};
-ghost use Rattle.am_office.specs.declared.Entry.{Entry};
+ghost use Rattle.am_office_entries.specs.declared.Entry.{Entry};
 ghost use Rattle.std.specs.Prelude.{List};
+
+pub mod channels;
+pub mod choices;
+pub mod disk;
+pub mod endpoints;
+pub mod homes;
+pub mod packets;
 
 /// In each history all sequences of a message, or all but the last, ended in a requeue. A message
 /// that was put is received or has run. One that was accepted and was neither put nor returned nor

@@ -3,8 +3,8 @@ use Rattle.std.proofs.Common.{◌≡◌, ⊎_elim, ℕ, zero, suc, ◌+◌, ◌�
 use Rattle.std.proofs.Common.{length-append}
 use Rattle.std.specs.Prelude.{option_and_then, option_map}
 use Rattle.std.proofs.lemmas.Bool.{cases_lt}
-use Rattle.am_office.specs.declared.Condition.{Condition}
-use Rattle.am_office.specs.declared.Entry.{Entry}
+use Rattle.am_office_entries.specs.declared.Condition.{Condition}
+use Rattle.am_office_entries.specs.declared.Entry.{Entry}
 use Rattle.am_model.specs.History.{MayFollow, IsHistory, failing}
 use Rattle.am_model.proofs.Each.{each_front, each_at}
 use Rattle.am_scenario_types.specs.Lists.{ScenarioLists}
@@ -13,8 +13,8 @@ use Rattle.am_model_drain.specs.declared.Turn.{Turn}
 use Rattle.am_model_drain.specs.Rules.{next_turn}
 use Rattle.am_model_drain.specs.Drain.{after_turn, after_next_turn, after_turns}
 use Rattle.am_model_drain.proofs.Turns.{Extends, turns_extend}
-use Rattle.am_laws_drain_steps.specs.Enabled.{IsOfRun}
-use Rattle.am_laws_drain_steps.proofs.Turning.{turns_may_follow}
+use Rattle.am_laws_runs.specs.Turns.Enabled.{IsOfRun}
+use Rattle.am_laws_runs.proofs.Turning.{turns_may_follow}
 use Rattle.am_laws_runs.specs.Drained.{BeginningsAreHistories, DrainsAreNotRefused, CutOffsAreHistories}
 
 -- of two beginnings of a list the shorter begins the longer

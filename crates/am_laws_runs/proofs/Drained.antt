@@ -5,9 +5,9 @@ use Rattle.std.proofs.Common.{append_assoc, append-nil, length-append}
 use Rattle.std.proofs.lemmas.List.Sums.{length-filter}
 use Rattle.am_lemmas.proofs.Lists.{each_of}
 use Rattle.am_names.specs.declared.NodeId.{NodeId}
-use Rattle.am_office.specs.declared.Entry.{Entry}
-use Rattle.am_office.specs.declared.Part.TheVariants as Parts
-use Rattle.am_office.specs.Entries.{touches, touches_node}
+use Rattle.am_office_entries.specs.declared.Entry.{Entry}
+use Rattle.am_office_entries.specs.declared.Part.TheVariants as Parts
+use Rattle.am_office_entries.specs.Entries.{touches, touches_node}
 use Rattle.am_model.specs.History.{IsHistory}
 use Rattle.am_model.proofs.Each.{each_front}
 use Rattle.am_scenario_types.specs.declared.parts.ThreadLine.{ThreadLine}
@@ -19,8 +19,8 @@ use Rattle.am_model_scripts.specs.Scripts.{calls_of, script_of}
 use Rattle.am_model_drain.specs.Drain.{after_turns}
 use Rattle.am_model_drain.specs.Cut.{full_for, MeetsNoFullLog}
 use Rattle.am_model_drain.proofs.Stopped.{cut_off_is_stopped}
-use Rattle.am_laws_drain_steps.specs.Enabled.{IsOfRun}
-use Rattle.am_laws_drain_steps.proofs.Turning.{drains_make_runs}
+use Rattle.am_laws_runs.specs.Turns.Enabled.{IsOfRun}
+use Rattle.am_laws_runs.proofs.Turning.{drains_make_runs}
 use Rattle.am_laws_runs.specs.Short.{IsWithinLogs}
 use Rattle.am_laws_runs.specs.Drained.{HasShortLogs, IsShortHistory, RunsAreShort, CutOffsAreShort, DrainsAreShort, NoneIsRefused, EmptyIsGoodPhase}
 use Rattle.am_laws_runs.specs.Drained.{CutOffRunsAreStopped, RunsAreWhole, RunsWithRoomAreWhole}

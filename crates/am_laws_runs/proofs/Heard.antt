@@ -6,23 +6,23 @@ use Rattle.am_names.specs.declared.Packet.TheVariants as Packets
 use Rattle.am_names.specs.declared.Parcel.{Parcel}
 use Rattle.am_names.specs.declared.Verdict.{Verdict}
 use Rattle.am_names.specs.declared.Verdict.TheVariants as Verdicts
-use Rattle.am_office.specs.declared.Entry.{Entry}
-use Rattle.am_office.specs.declared.Event.{Event}
-use Rattle.am_office.specs.declared.Event.TheVariants as Events
-use Rattle.am_office.specs.declared.Outcome.TheVariants as Out
-use Rattle.am_office.specs.Entries.{emitted_of}
+use Rattle.am_office_entries.specs.declared.Entry.{Entry}
+use Rattle.am_office_entries.specs.declared.Event.{Event}
+use Rattle.am_office_entries.specs.declared.Event.TheVariants as Events
+use Rattle.am_office_entries.specs.declared.Outcome.TheVariants as Out
+use Rattle.am_office_entries.specs.Entries.{emitted_of}
 use Rattle.am_model.specs.Channels.{Channel, Mark, Arrival, Stale, Again, Fresh, arrival, arrival_at, mark, mark_in, decides, emitted}
 use Rattle.am_model.specs.Endpoint.{verdict}
 use Rattle.am_model.specs.History.{MayFollow, IsHistory, state_of, outcome_of, receive, arrive, decided, next_number, channel_to}
 use Rattle.am_model.specs.Layout.{Layout}
 use Rattle.am_model.proofs.Each.{over_each, each_push}
 use Rattle.am_model.proofs.Ends.{EmittedIn, emitted_more, mark_push}
-use Rattle.am_laws_order.proofs.Marks.{IsPast}
-use Rattle.am_laws_order.proofs.Puts.{IsFresh, fresh_before}
+use Rattle.am_laws.proofs.Marks.{IsPast}
+use Rattle.am_laws.proofs.Puts.{IsFresh, fresh_before}
 use Rattle.am_model_scripts.specs.Links.{number_received, received}
 use Rattle.am_model_scripts.proofs.Links.{received_push}
-use Rattle.am_laws_drain_steps.specs.Endings.{is_among}
-use Rattle.am_laws_drain_steps.proofs.Counted.{among_append, counted, not_yet, received_now}
+use Rattle.am_laws_runs.specs.Turns.Endings.{is_among}
+use Rattle.am_laws_runs.proofs.TurnCounts.{among_append, counted, not_yet, received_now}
 use Rattle.am_laws_runs.proofs.Zone.{decides_now, decided_mark, not_past}
 
 -- what comes past a mark is fresh there

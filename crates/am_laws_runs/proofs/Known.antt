@@ -15,14 +15,14 @@ use Rattle.am_names.specs.declared.Packet.{Packet}
 use Rattle.am_names.specs.declared.Packet.TheVariants as Packets
 use Rattle.am_names.specs.declared.Verdict.{Verdict}
 use Rattle.am_names.specs.declared.Verdict.TheVariants as Verdicts
-use Rattle.am_office.specs.declared.Entry.{Entry}
-use Rattle.am_office.specs.declared.Event.{Event}
-use Rattle.am_office.specs.declared.Event.TheVariants as Events
-use Rattle.am_office.specs.declared.Outcome.{Outcome}
-use Rattle.am_office.specs.declared.Outcome.TheVariants as Out
-use Rattle.am_office.specs.declared.Part.TheVariants as Parts
-use Rattle.am_office.specs.declared.Received.TheVariants as Got
-use Rattle.am_office.specs.Entries.{ends_touched, node_touched, is_node, touched_by_expiry, touched_by_result, touches, touches_node}
+use Rattle.am_office_entries.specs.declared.Entry.{Entry}
+use Rattle.am_office_entries.specs.declared.Event.{Event}
+use Rattle.am_office_entries.specs.declared.Event.TheVariants as Events
+use Rattle.am_office_entries.specs.declared.Outcome.{Outcome}
+use Rattle.am_office_entries.specs.declared.Outcome.TheVariants as Out
+use Rattle.am_office_entries.specs.declared.Part.TheVariants as Parts
+use Rattle.am_office_entries.specs.declared.Received.TheVariants as Got
+use Rattle.am_office_entries.specs.Entries.{ends_touched, node_touched, is_node, touched_by_expiry, touched_by_result, touches, touches_node}
 use Rattle.am_model.specs.Changes.{flying_of}
 use Rattle.am_model.specs.Channels.{Arrival, Stale, Again, Fresh, arrival, attempt, bound_message, emitted, mark, sequence}
 use Rattle.am_model.specs.Endpoint.{verdict}
@@ -33,14 +33,14 @@ use Rattle.am_model.proofs.Each.{over_each, each_push}
 use Rattle.am_model.proofs.Ends.{was_emitted}
 use Rattle.am_model.proofs.Names.{same_end-is, same_node-is}
 use Rattle.am_laws_cluster.proofs.Bound.{in_flight_bound}
-use Rattle.am_laws_messages.proofs.Delivered.{delivers}
-use Rattle.am_laws_order.proofs.Packets.{not_carry}
+use Rattle.am_laws.proofs.Delivered.{delivers}
+use Rattle.am_laws.proofs.OrderedPackets.{not_carry}
 use Rattle.am_scenario_types.specs.Lists.{ScenarioLists}
 use Rattle.am_model_scripts.specs.Layout.{layout_of}
 use Rattle.am_model_scripts.proofs.Lawful.{lawful_layout}
-use Rattle.am_laws_drain_steps.specs.Enabled.{IsOfRun}
-use Rattle.am_laws_drain_steps.proofs.Calls.{home_seated}
-use Rattle.am_laws_drain_steps.proofs.Enabled.{of_packets}
+use Rattle.am_laws_runs.specs.Turns.Enabled.{IsOfRun}
+use Rattle.am_laws_runs.proofs.Calls.{home_seated}
+use Rattle.am_laws_runs.proofs.Enabled.{of_packets}
 use Rattle.am_laws_runs.specs.Short.{IsWithinLogs}
 use Rattle.am_laws_runs.specs.Drained.{RunsHaveShortLogs}
 

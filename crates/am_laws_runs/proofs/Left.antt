@@ -5,8 +5,8 @@ use Rattle.am_model_scripts.specs.Standings.{IsAtRest}
 use Rattle.am_model_drain.proofs.Receipts.{receipts_go_on}
 use Rattle.am_model_drain.proofs.Rest.{NoRule, no_call_left, no_rule}
 use Rattle.am_model_drain.proofs.Scripts.{scripts_go_on}
-use Rattle.am_laws_drain.proofs.Pending.{none_pending}
-use Rattle.am_laws_drain.proofs.Soundness.{drains_rest}
+use Rattle.am_laws_runs.proofs.Pending.{none_pending}
+use Rattle.am_laws_runs.proofs.Soundness.{drains_rest}
 use Rattle.am_laws_runs.specs.Drained.{IsShortHistory}
 use Rattle.am_laws_runs.specs.Left.{DrainsLeaveNothing, DrainsReceiveAll}
 use Rattle.am_laws_runs.proofs.Drained.{drains_are_short}

@@ -6,10 +6,10 @@ use Rattle.std.proofs.lemmas.Bool.{leb-false}
 use Rattle.std.proofs.lemmas.List.Sums.{length-filter, sum_by_push}
 use Rattle.am_names.specs.declared.EndpointId.{EndpointId}
 use Rattle.am_names.specs.declared.NodeId.{NodeId}
-use Rattle.am_office.specs.declared.Entry.{Entry}
-use Rattle.am_office.specs.declared.Part.{Part}
-use Rattle.am_office.specs.declared.Part.TheVariants as Parts
-use Rattle.am_office.specs.Entries.{ends_touched, node_touched, is_node, touches, touches_node}
+use Rattle.am_office_entries.specs.declared.Entry.{Entry}
+use Rattle.am_office_entries.specs.declared.Part.{Part}
+use Rattle.am_office_entries.specs.declared.Part.TheVariants as Parts
+use Rattle.am_office_entries.specs.Entries.{ends_touched, node_touched, is_node, touches, touches_node}
 use Rattle.am_model.specs.Steps.{is_end_full, is_node_full, least_such, full_by}
 use Rattle.am_model.proofs.Names.{same_node-is}
 use Rattle.am_model.proofs.Chosen.{least_such-None}

@@ -8,12 +8,12 @@ use Rattle.std.proofs.lemmas.List.Sums.{sum_by-cons}
 use Rattle.am_names.specs.Names.{same_end, has_serial}
 use Rattle.am_names.specs.declared.EndpointId.{EndpointId}
 use Rattle.am_names.specs.declared.Message.{Message}
-use Rattle.am_office.specs.declared.Entry.{Entry}
-use Rattle.am_office.specs.declared.Event.{Event}
-use Rattle.am_office.specs.declared.Event.TheVariants as Events
-use Rattle.am_office.specs.declared.Outcome.{Outcome}
-use Rattle.am_office.specs.declared.Outcome.TheVariants as Out
-use Rattle.am_office.specs.Entries.{ends_touched}
+use Rattle.am_office_entries.specs.declared.Entry.{Entry}
+use Rattle.am_office_entries.specs.declared.Event.{Event}
+use Rattle.am_office_entries.specs.declared.Event.TheVariants as Events
+use Rattle.am_office_entries.specs.declared.Outcome.{Outcome}
+use Rattle.am_office_entries.specs.declared.Outcome.TheVariants as Out
+use Rattle.am_office_entries.specs.Entries.{ends_touched}
 use Rattle.am_model.specs.declared.Flying.{Flying}
 use Rattle.am_model.specs.declared.Queued.{Queued}
 use Rattle.am_model.specs.Changes.{bounces_of, flying_of}
@@ -24,14 +24,14 @@ use Rattle.am_model.specs.History.{MayFollow, IsHistory, state_of, bind, bounced
 use Rattle.am_model.specs.Layout.{Layout, AllAre}
 use Rattle.am_model.proofs.Names.{same_end-is}
 use Rattle.am_laws_cluster.proofs.Bound.{in_flight_bound}
-use Rattle.am_laws_endpoints.proofs.Bounced.{bounces_are}
-use Rattle.am_laws_messages.proofs.Alls.{all_found}
+use Rattle.am_laws_cluster.proofs.Bounced.{bounces_are}
+use Rattle.am_laws.proofs.Alls.{all_found}
 use Rattle.am_scenario_types.specs.Lists.{ScenarioLists}
 use Rattle.am_model_scripts.specs.Layout.{layout_of}
 use Rattle.am_model_scripts.proofs.Lawful.{lawful_layout}
 use Rattle.am_model_scripts.specs.Follows.{is_bounced_out, is_last_in, is_last}
-use Rattle.am_laws_drain_steps.specs.Enabled.{IsOfRun}
-use Rattle.am_laws_drain_steps.proofs.Enabled.{of_packets}
+use Rattle.am_laws_runs.specs.Turns.Enabled.{IsOfRun}
+use Rattle.am_laws_runs.proofs.Enabled.{of_packets}
 use Rattle.am_laws_runs.proofs.Queues.{BindsLow, AreFine, fine_more, IsLow}
 
 -- so few bounces that one more is within the limit

@@ -3,15 +3,15 @@ use Rattle.std.specs.Prelude.{filter}
 use Rattle.std.proofs.Common.{◌≡◌, ℕ, ◌*◌, ◌≤◌, ◌<◌, ◌^◌, Bool, List, [], ◌++◌, length, Some, sym, ap, ◌∙◌, subst, arith, append_assoc, append-nil}
 use Rattle.std.proofs.Common.{length-append}
 use Rattle.std.proofs.lemmas.List.Elements.{filter-append}
-use Rattle.am_office.specs.declared.Entry.{Entry}
-use Rattle.am_office.specs.Entries.{touches, touches_node}
+use Rattle.am_office_entries.specs.declared.Entry.{Entry}
+use Rattle.am_office_entries.specs.Entries.{touches, touches_node}
 use Rattle.am_model.specs.History.{IsHistory}
 use Rattle.am_model.specs.Layout.{Layout}
 use Rattle.am_model_scripts.specs.Layout.{layout_of}
 use Rattle.am_model_scripts.proofs.Lawful.{lawful_layout}
 use Rattle.am_model_drain.proofs.Stopped.{cut_off_is_stopped}
-use Rattle.am_laws_drain_steps.specs.Enabled.{IsOfRun}
-use Rattle.am_laws_drain_steps.proofs.Turning.{drains_make_runs}
+use Rattle.am_laws_runs.specs.Turns.Enabled.{IsOfRun}
+use Rattle.am_laws_runs.proofs.Turning.{drains_make_runs}
 use Rattle.am_laws_runs.specs.Short.{IsWithinLogs}
 use Rattle.am_laws_runs.specs.Drained.{IsShortHistory, BeginningsAreShort, CutOffPhasesAreStopped, PhasesWithRoomAreWhole, RunsAreNotRefused}
 use Rattle.am_laws_runs.proofs.Short.{journals_are_short}

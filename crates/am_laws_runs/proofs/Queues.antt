@@ -7,16 +7,16 @@ use Rattle.am_names.specs.declared.EndpointId.{EndpointId}
 use Rattle.am_names.specs.declared.Message.{Message}
 use Rattle.am_names.specs.declared.NodeId.{NodeId}
 use Rattle.am_names.specs.declared.Serial.{Serial}
-use Rattle.am_office.specs.declared.Call.{Call}
-use Rattle.am_office.specs.declared.Call.TheVariants as Calls
-use Rattle.am_office.specs.declared.Entry.{Entry}
-use Rattle.am_office.specs.declared.Event.{Event}
-use Rattle.am_office.specs.declared.Event.TheVariants as Events
-use Rattle.am_office.specs.declared.Outcome.{Outcome}
-use Rattle.am_office.specs.declared.Outcome.TheVariants as Out
-use Rattle.am_office.specs.declared.Received.{Received}
-use Rattle.am_office.specs.declared.Received.TheVariants as Got
-use Rattle.am_office.specs.Entries.{touches}
+use Rattle.am_office_entries.specs.declared.Call.{Call}
+use Rattle.am_office_entries.specs.declared.Call.TheVariants as Calls
+use Rattle.am_office_entries.specs.declared.Entry.{Entry}
+use Rattle.am_office_entries.specs.declared.Event.{Event}
+use Rattle.am_office_entries.specs.declared.Event.TheVariants as Events
+use Rattle.am_office_entries.specs.declared.Outcome.{Outcome}
+use Rattle.am_office_entries.specs.declared.Outcome.TheVariants as Out
+use Rattle.am_office_entries.specs.declared.Received.{Received}
+use Rattle.am_office_entries.specs.declared.Received.TheVariants as Got
+use Rattle.am_office_entries.specs.Entries.{touches}
 use Rattle.am_model.specs.declared.Flying.{Flying}
 use Rattle.am_model.specs.declared.Queued.{Queued}
 use Rattle.am_model.specs.Choice.{without_first}
@@ -27,8 +27,8 @@ use Rattle.am_model.specs.History.{MayFollow, IsHistory, state_of}
 use Rattle.am_model.specs.Layout.{Layout, EndSetting, AllAre, has_id, opening_by}
 use Rattle.am_model.proofs.Each.{over_each, state_of_push}
 use Rattle.am_model.proofs.Alls.{all_push}
-use Rattle.am_laws_messages.proofs.Alls.{all_tail, all_without}
-use Rattle.am_laws_order.proofs.Packets.{not_carry}
+use Rattle.am_laws.proofs.Alls.{all_tail, all_without}
+use Rattle.am_laws.proofs.OrderedPackets.{not_carry}
 
 abbrev pub Answers : Queued → Type 0
 Answers q = is_reply q.message ≡ true

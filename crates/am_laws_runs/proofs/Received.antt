@@ -15,23 +15,23 @@ use Rattle.am_names.specs.declared.Parcel.{Parcel}
 use Rattle.am_names.specs.declared.Serial.{Serial}
 use Rattle.am_names.specs.declared.Verdict.{Verdict}
 use Rattle.am_names.specs.declared.Verdict.TheVariants as Verdicts
-use Rattle.am_office.specs.declared.Entry.{Entry}
-use Rattle.am_office.specs.declared.Event.{Event}
-use Rattle.am_office.specs.declared.Event.TheVariants as Events
-use Rattle.am_office.specs.declared.Outcome.{Outcome}
-use Rattle.am_office.specs.declared.Outcome.TheVariants as Out
-use Rattle.am_office.specs.declared.Received.TheVariants as Got
-use Rattle.am_office.specs.Entries.{emitted_in, emitted_of, answer_by, answer_packet}
-use Rattle.am_office.specs.Fates.{cause_by, cause_of, cause_if}
+use Rattle.am_office_entries.specs.declared.Entry.{Entry}
+use Rattle.am_office_entries.specs.declared.Event.{Event}
+use Rattle.am_office_entries.specs.declared.Event.TheVariants as Events
+use Rattle.am_office_entries.specs.declared.Outcome.{Outcome}
+use Rattle.am_office_entries.specs.declared.Outcome.TheVariants as Out
+use Rattle.am_office_entries.specs.declared.Received.TheVariants as Got
+use Rattle.am_office_entries.specs.Entries.{emitted_in, emitted_of, answer_by, answer_packet}
+use Rattle.am_office_entries.specs.Fates.{cause_by, cause_of, cause_if}
 use Rattle.am_model.specs.Channels.{Channel, Mark, Arrival, Stale, Again, Fresh, arrival, arrival_at, sequence, attempt, bound_message, mark, emitted}
 use Rattle.am_model.specs.Changes.{flying_of}
 use Rattle.am_model.specs.Endpoint.{verdict}
 use Rattle.am_model.specs.History.{state_of, is_in_range, is_four_bytes, receive, arrive, decided, settle, settle_by, counts, bounced, next_number, channel_to}
 use Rattle.am_model.specs.Layout.{Layout}
 use Rattle.am_model.proofs.Ends.{was_emitted}
-use Rattle.am_laws_order.proofs.Effects.{link_of_answer}
-use Rattle.am_laws_order.proofs.Marks.{IsPast, fresh_means, link_of, no_answer, settle_answers, settle_decides}
-use Rattle.am_laws_order.proofs.Puts.{link_of_parcel}
+use Rattle.am_laws.proofs.Effects.{link_of_answer}
+use Rattle.am_laws.proofs.Marks.{IsPast, fresh_means, link_of, no_answer, settle_answers, settle_decides}
+use Rattle.am_laws.proofs.Puts.{link_of_parcel}
 use Rattle.am_laws_runs.proofs.Fits.{IsForGood, fits_for_good}
 use Rattle.am_laws_runs.proofs.Zone.{FitsOf, Zone, Receives, Comes, undeciding, undecided_more, decided_more}
 use Rattle.am_model.specs.Cluster.{answer_channel, other_end}

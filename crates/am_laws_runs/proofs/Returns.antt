@@ -11,18 +11,18 @@ use Rattle.am_names.specs.declared.Packet.{Packet}
 use Rattle.am_names.specs.declared.Packet.TheVariants as Packets
 use Rattle.am_names.specs.declared.Parcel.{Parcel}
 use Rattle.am_names.specs.declared.Serial.{Serial}
-use Rattle.am_office.specs.declared.Entry.{Entry}
-use Rattle.am_office.specs.declared.Event.{Event}
-use Rattle.am_office.specs.declared.Event.TheVariants as Events
-use Rattle.am_office.specs.declared.Outcome.{Outcome}
-use Rattle.am_office.specs.declared.endings.Fate.TheVariants as Fates
-use Rattle.am_office.specs.Entries.{emitted_in, emitted_of}
-use Rattle.am_office.specs.Fates.{cause_of, causes_of, fate, fate_by, fate_of_accepted, is_accepted, is_run, is_unknown}
+use Rattle.am_office_entries.specs.declared.Entry.{Entry}
+use Rattle.am_office_entries.specs.declared.Event.{Event}
+use Rattle.am_office_entries.specs.declared.Event.TheVariants as Events
+use Rattle.am_office_entries.specs.declared.Outcome.{Outcome}
+use Rattle.am_office_entries.specs.declared.endings.Fate.TheVariants as Fates
+use Rattle.am_office_entries.specs.Entries.{emitted_in, emitted_of}
+use Rattle.am_office_entries.specs.Fates.{cause_of, causes_of, fate, fate_by, fate_of_accepted, is_accepted, is_run, is_unknown}
 use Rattle.am_model.specs.History.{MayFollow, EachAfter, IsHistory, outcome_of}
 use Rattle.am_model.specs.Layout.{Layout, AllAre}
 use Rattle.am_model.proofs.Each.{each_at, each_front, over_each, each_push}
 use Rattle.am_model.proofs.Alls.{all_push}
-use Rattle.am_laws_order.proofs.Packets.{not_carry}
+use Rattle.am_laws.proofs.OrderedPackets.{not_carry}
 use Rattle.am_scenario_types.specs.Lists.{ScenarioLists}
 use Rattle.am_model_scripts.specs.Layout.{layout_of}
 use Rattle.am_model_scripts.specs.Follows.{is_last}
@@ -38,11 +38,11 @@ use Rattle.am_model_drain.proofs.Quiet.{Quiet}
 use Rattle.am_model_drain.proofs.TurnKinds.{IsDueReceipt, is_so, next_receipt_so}
 use Rattle.am_model_drain.proofs.Turns.{Grows, IsTurnBy, Receives, TimesOut, PagesIn, Sends, Makes, Polls, Extends, event_of, extends_on, over_turns}
 use Rattle.am_model_drain.proofs.Turns.{ready_keeps, turn_extends, turn_grows}
-use Rattle.am_laws_drain.proofs.Soundness.{drains_follow}
-use Rattle.am_laws_drain_steps.specs.Enabled.{IsOfRun}
-use Rattle.am_laws_drain_steps.specs.Endings.{WithholdsNothing, ReturnsAreForGood}
-use Rattle.am_laws_drain_steps.proofs.Enabled.{of_packets}
-use Rattle.am_laws_drain_steps.proofs.Nothing.{accepted_fate}
+use Rattle.am_laws_runs.proofs.Soundness.{drains_follow}
+use Rattle.am_laws_runs.specs.Turns.Enabled.{IsOfRun}
+use Rattle.am_laws_runs.specs.Turns.Endings.{WithholdsNothing, ReturnsAreForGood}
+use Rattle.am_laws_runs.proofs.Enabled.{of_packets}
+use Rattle.am_laws_runs.proofs.Nothing.{accepted_fate}
 use Rattle.am_laws_runs.specs.Returns.{NoneTimesOut, DrainedReturnsAreForGood}
 use Rattle.am_laws_runs.proofs.Drained.{empty_is_good_phase}
 use Rattle.am_laws_runs.proofs.Low.{MayBounce, low_more, bound_low}

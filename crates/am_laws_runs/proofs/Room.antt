@@ -12,9 +12,9 @@ use Rattle.am_names.specs.declared.Message.{Message}
 use Rattle.am_names.specs.declared.NodeId.{NodeId}
 use Rattle.am_names.specs.declared.Packet.TheVariants as Packets
 use Rattle.am_names.specs.declared.Parcel.{Parcel}
-use Rattle.am_office.specs.declared.Entry.{Entry}
-use Rattle.am_office.specs.declared.Event.TheVariants as Events
-use Rattle.am_office.specs.Entries.{emitted_of, parcel, touches}
+use Rattle.am_office_entries.specs.declared.Entry.{Entry}
+use Rattle.am_office_entries.specs.declared.Event.TheVariants as Events
+use Rattle.am_office_entries.specs.Entries.{emitted_of, parcel, touches}
 use Rattle.am_model.specs.declared.Queued.{Queued}
 use Rattle.am_model.specs.Endpoint.{Body, State, front, front_of, is_in_a_frame, is_resident}
 use Rattle.am_model.specs.History.{state_of, bind, bind_to, channel_for}
@@ -22,7 +22,7 @@ use Rattle.am_model.specs.Layout.{Layout, AllAre, IsLawful, home}
 use Rattle.am_model.proofs.Each.{state_of_push}
 use Rattle.am_model.proofs.Names.{same_end-is}
 use Rattle.am_laws_cluster.proofs.Flights.{open_queued}
-use Rattle.am_laws_homes.proofs.Homes.{front_addressed}
+use Rattle.am_laws_cluster.proofs.HomesKept.{front_addressed}
 use Rattle.am_scenario_types.specs.Lists.{ScenarioLists}
 use Rattle.am_model_scripts.specs.Layout.{layout_of}
 use Rattle.am_model_scripts.proofs.Lawful.{lawful_layout}
@@ -36,13 +36,13 @@ use Rattle.am_model_drain.specs.Made.{next_entry}
 use Rattle.am_model_drain.specs.Ready.{ready, ready_at, ready_dest_if, ready_dest}
 use Rattle.am_model_drain.specs.Rules.{has_reply, has_room, finds_room, has_request, next_sender, next_send, next_time_out, send_front, send_of}
 use Rattle.am_model_drain.proofs.Quiet.{Quiet, then, ready-quiet, ready_dest-quiet}
-use Rattle.am_laws_drain_steps.specs.Enabled.{IsOfRun}
-use Rattle.am_laws_drain_steps.proofs.Calls.{home_seated, declared_home}
-use Rattle.am_laws_drain_steps.proofs.Emptying.{AsSource, AsDest, IsGrounded}
-use Rattle.am_laws_drain_steps.proofs.Enabled.{IsStanding, is_standing, of_packets}
-use Rattle.am_laws_drain_steps.proofs.Moves.{spares_then}
-use Rattle.am_laws_drain_steps.proofs.Readying.{IsReady, readies, spared_ground}
-use Rattle.am_laws_drain_steps.proofs.Sends.{grounded, sender_stands}
+use Rattle.am_laws_runs.specs.Turns.Enabled.{IsOfRun}
+use Rattle.am_laws_runs.proofs.Calls.{home_seated, declared_home}
+use Rattle.am_laws_runs.proofs.Emptying.{AsSource, AsDest, IsGrounded}
+use Rattle.am_laws_runs.proofs.Enabled.{IsStanding, is_standing, of_packets}
+use Rattle.am_laws_runs.proofs.Moves.{spares_then}
+use Rattle.am_laws_runs.proofs.Readying.{IsReady, readies, spared_ground}
+use Rattle.am_laws_runs.proofs.Sends.{grounded, sender_stands}
 use Rattle.am_laws_runs.proofs.Fits.{fits, bound_fits}
 use Rattle.am_laws_runs.proofs.Queues.{Answers, replies_answer}
 

@@ -7,18 +7,18 @@ use Rattle.am_names.specs.declared.NodeId.{NodeId}
 use Rattle.am_names.specs.declared.Packet.{Packet}
 use Rattle.am_names.specs.declared.Packet.TheVariants as Packets
 use Rattle.am_names.specs.declared.Parcel.{Parcel}
-use Rattle.am_office.specs.declared.Entry.{Entry}
-use Rattle.am_office.specs.declared.Event.TheVariants as Events
+use Rattle.am_office_entries.specs.declared.Entry.{Entry}
+use Rattle.am_office_entries.specs.declared.Event.TheVariants as Events
 use Rattle.am_model.specs.Channels.{Channel, sequence, attempt, bound_message}
 use Rattle.am_model.specs.History.{MayFollow, IsHistory, channel_to}
 use Rattle.am_model.specs.Layout.{Layout, IsLawful}
 use Rattle.am_model.proofs.Each.{over_each}
 use Rattle.am_model.proofs.Ends.{EmittedIn}
 use Rattle.am_laws_cluster.proofs.Bound.{in_flight_bound}
-use Rattle.am_laws_messages.proofs.Delivered.{delivers}
-use Rattle.am_laws_order.proofs.Puts.{IsFresh}
-use Rattle.am_laws_order.proofs.Marks.{ChannelsKept, channels_more, channels_begin}
-use Rattle.am_laws_homes.proofs.Homes.{home_below}
+use Rattle.am_laws.proofs.Delivered.{delivers}
+use Rattle.am_laws.proofs.Puts.{IsFresh}
+use Rattle.am_laws.proofs.Marks.{ChannelsKept, channels_more, channels_begin}
+use Rattle.am_laws_cluster.proofs.HomesKept.{home_below}
 use Rattle.am_scenario_plan.specs.Shape.{number_of}
 use Rattle.am_scenario_types.specs.Lists.{ScenarioLists}
 use Rattle.am_model_scripts.specs.Layout.{layout_of}
@@ -27,12 +27,12 @@ use Rattle.am_model_scripts.specs.Links.{ReceivesInOrder, first_some, next_recei
 use Rattle.am_model_scripts.proofs.Links.{all_is_received}
 use Rattle.am_model_drain.specs.declared.Turn.TheVariants.{Once}
 use Rattle.am_model_drain.specs.Rules.{time_out, time_out_to, time_out_at, next_time_out}
-use Rattle.am_laws_drain_steps.specs.Enabled.{IsOfRun}
-use Rattle.am_laws_drain_steps.specs.Endings.{WithholdsNothing, is_among}
-use Rattle.am_laws_drain_steps.proofs.Answered.{LastSent, last_are_sent, HasAnswer, last_are_answered}
-use Rattle.am_laws_drain_steps.proofs.Unheard.{asked, unheard}
-use Rattle.am_laws_drain_steps.proofs.Nothing.{is_released}
-use Rattle.am_laws_drain_steps.proofs.Unknown.{link_is_received}
+use Rattle.am_laws_runs.specs.Turns.Enabled.{IsOfRun}
+use Rattle.am_laws_runs.specs.Turns.Endings.{WithholdsNothing, is_among}
+use Rattle.am_laws_runs.proofs.Answered.{LastSent, last_are_sent, HasAnswer, last_are_answered}
+use Rattle.am_laws_runs.proofs.Unheard.{asked, unheard}
+use Rattle.am_laws_runs.proofs.Nothing.{is_released}
+use Rattle.am_laws_runs.proofs.Unknown.{link_is_received}
 use Rattle.am_laws_runs.proofs.Heard.{are_heard}
 use Rattle.am_laws_runs.proofs.Zone.{IsBetween, Zone}
 use Rattle.am_model.specs.Cluster.{answer_channel}

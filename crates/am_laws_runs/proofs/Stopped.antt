@@ -4,14 +4,14 @@ use Rattle.std.specs.Prelude.{not}
 use Rattle.std.proofs.lemmas.List.Elements.{filter_map-append}
 use Rattle.am_names.specs.Rules.{is_transient}
 use Rattle.am_names.specs.declared.Cause.{Cause}
-use Rattle.am_office.specs.declared.Entry.{Entry}
-use Rattle.am_office.specs.Fates.{cause_of, causes_of}
+use Rattle.am_office_entries.specs.declared.Entry.{Entry}
+use Rattle.am_office_entries.specs.Fates.{cause_of, causes_of}
 use Rattle.am_model.specs.Layout.{AllAre}
 use Rattle.am_model.proofs.Each.{each_front}
 use Rattle.am_model_scripts.specs.Layout.{layout_of}
 use Rattle.am_model_scripts.specs.Follows.{is_last}
 use Rattle.am_model_scripts.specs.Links.{IsReceiptInOrder, is_all_received}
-use Rattle.am_laws_drain_steps.specs.Enabled.{IsOfRun}
+use Rattle.am_laws_runs.specs.Turns.Enabled.{IsOfRun}
 use Rattle.am_laws_runs.specs.Stopped.{StoppedRunsAreOrderly, StoppedReturnsAreForGood}
 use Rattle.am_laws_runs.proofs.Beginnings.{IsCovered, covers}
 use Rattle.am_laws_runs.proofs.Orderly.{IsKept, turns_keep}

@@ -12,12 +12,12 @@ use Rattle.am_names.specs.declared.Packet.TheVariants as Packets
 use Rattle.am_names.specs.declared.Parcel.{Parcel}
 use Rattle.am_names.specs.declared.Verdict.{Verdict}
 use Rattle.am_names.specs.declared.Verdict.TheVariants as Verdicts
-use Rattle.am_office.specs.declared.Entry.{Entry}
-use Rattle.am_office.specs.declared.Event.{Event}
-use Rattle.am_office.specs.declared.Event.TheVariants as Events
-use Rattle.am_office.specs.declared.Outcome.{Outcome}
-use Rattle.am_office.specs.declared.Outcome.TheVariants as Out
-use Rattle.am_office.specs.Entries.{emitted_in, emitted_of, answer_by, answer_packet, touches}
+use Rattle.am_office_entries.specs.declared.Entry.{Entry}
+use Rattle.am_office_entries.specs.declared.Event.{Event}
+use Rattle.am_office_entries.specs.declared.Event.TheVariants as Events
+use Rattle.am_office_entries.specs.declared.Outcome.{Outcome}
+use Rattle.am_office_entries.specs.declared.Outcome.TheVariants as Out
+use Rattle.am_office_entries.specs.Entries.{emitted_in, emitted_of, answer_by, answer_packet, touches}
 use Rattle.am_model.specs.Channels.{Channel, Mark, same_channel, sequence, attempt, bound_message, mark, mark_in, decides, decides_by, emitted}
 use Rattle.am_model.specs.Changes.{changed}
 use Rattle.am_model.specs.Endpoint.{State}
@@ -26,10 +26,10 @@ use Rattle.am_model.specs.Layout.{Layout}
 use Rattle.am_model.proofs.Each.{state_of_push}
 use Rattle.am_model.proofs.Ends.{EmittedIn, emitted_more, mark_push}
 use Rattle.am_model.proofs.Names.{same_channel-refl}
-use Rattle.am_laws_order.proofs.Marks.{IsPast, parcel_no_answer}
-use Rattle.am_laws_order.proofs.Parcels.{receive_no_parcel}
-use Rattle.am_laws_order.proofs.Puts.{IsFresh, fresh_before}
-use Rattle.am_laws_order.proofs.Senders.{SenderMoves, sender, sender_moves}
+use Rattle.am_laws.proofs.Marks.{IsPast, parcel_no_answer}
+use Rattle.am_laws.proofs.OrderedParcels.{receive_no_parcel}
+use Rattle.am_laws.proofs.Puts.{IsFresh, fresh_before}
+use Rattle.am_laws.proofs.Senders.{SenderMoves, sender, sender_moves}
 use Rattle.am_laws_runs.proofs.Fits.{fits, IsForGood, received_fits}
 use Rattle.am_model.specs.Cluster.{answer_channel, parcel_channel, other_end}
 

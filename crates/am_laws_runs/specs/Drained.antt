@@ -1,8 +1,8 @@
 -- What a drain comes to: its entries may follow, and with no log longer than it may be it makes a history.
 use Rattle.std.specs.Prelude.{◌≡◌, ◌≤◌, ◌<◌, ◌*◌, ◌^◌, List, [], ◌++◌, length, count_by}
-use Rattle.am_office.specs.declared.Condition.{Condition}
-use Rattle.am_office.specs.declared.Entry.{Entry}
-use Rattle.am_office.specs.declared.Part.{Part}
+use Rattle.am_office_entries.specs.declared.Condition.{Condition}
+use Rattle.am_office_entries.specs.declared.Entry.{Entry}
+use Rattle.am_office_entries.specs.declared.Part.{Part}
 use Rattle.am_model.specs.History.{IsHistory}
 use Rattle.am_scenario_types.specs.declared.parts.Network.TheVariants.{Packet}
 use Rattle.am_scenario_types.specs.Lawful.{IsLawful}
@@ -12,8 +12,8 @@ use Rattle.am_model.specs.Parts.{touches_part}
 use Rattle.am_model_drain.specs.Drain.{IsDrained}
 use Rattle.am_model_drain.specs.Follows.{IsGoodPhase, IsStoppedFor}
 use Rattle.am_model_drain.specs.Cut.{MeetsNoFullLog, IsDrainedWithRoom, IsDrainCutOff}
-use Rattle.am_laws_drain_steps.specs.Enabled.{IsOfRun}
-use Rattle.am_laws_drain_steps.specs.Runs.{IsWholeRun}
+use Rattle.am_laws_runs.specs.Turns.Enabled.{IsOfRun}
+use Rattle.am_laws_runs.specs.Turns.Runs.{IsWholeRun}
 use Rattle.am_cluster_drainer.specs.Stops.{IsDrainBeginning, IsDrainRefused}
 use Rattle.am_laws_runs.specs.Short.{IsWithinLogs}
 

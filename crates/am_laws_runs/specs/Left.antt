@@ -1,9 +1,9 @@
 -- What a drain leaves at its end.
 use Rattle.std.specs.Prelude.{◌≡◌, ◌≢◌, Some, None, List}
 use Rattle.am_names.specs.declared.Message.{Message}
-use Rattle.am_office.specs.declared.Entry.{Entry}
-use Rattle.am_office.specs.declared.endings.Fate.TheVariants as Fates
-use Rattle.am_office.specs.Fates.{fate}
+use Rattle.am_office_entries.specs.declared.Entry.{Entry}
+use Rattle.am_office_entries.specs.declared.endings.Fate.TheVariants as Fates
+use Rattle.am_office_entries.specs.Fates.{fate}
 use Rattle.am_model.specs.PostOffice.{WasAccepted}
 use Rattle.am_scenario_types.specs.Lists.{ScenarioLists}
 use Rattle.am_model_scripts.specs.Links.{KeepsLinks, ReceivesInOrder, next_receipt}
@@ -11,7 +11,7 @@ use Rattle.am_model_scripts.specs.Scripts.{BeginsScripts, KeepsScripts}
 use Rattle.am_model_scripts.specs.Standings.{IsAtRest}
 use Rattle.am_model_drain.specs.Cut.{IsDrainedWithRoom}
 use Rattle.am_model_drain.specs.Drain.{IsDrained}
-use Rattle.am_laws_drain_steps.specs.Enabled.{IsOfRun}
+use Rattle.am_laws_runs.specs.Turns.Enabled.{IsOfRun}
 use Rattle.am_laws_runs.specs.Drained.{HasShortLogs}
 
 -- all is at rest, every call of the scripts was made, no packet is left to be received, and no message that was accepted is pending

@@ -3,15 +3,15 @@ use Rattle.std.specs.Prelude.{◌≡◌, Some, None, false, List, []}
 use Rattle.am_names.specs.Rules.{is_transient}
 use Rattle.am_names.specs.declared.Cause.{Cause}
 use Rattle.am_names.specs.declared.Serial.{Serial}
-use Rattle.am_office.specs.declared.Entry.{Entry}
-use Rattle.am_office.specs.declared.endings.Fate.TheVariants as Fates
-use Rattle.am_office.specs.Fates.{fate}
+use Rattle.am_office_entries.specs.declared.Entry.{Entry}
+use Rattle.am_office_entries.specs.declared.endings.Fate.TheVariants as Fates
+use Rattle.am_office_entries.specs.Fates.{fate}
 use Rattle.am_scenario_types.specs.Lists.{ScenarioLists}
 use Rattle.am_model_scripts.specs.Links.{ReceivesInOrder, next_receipt}
 use Rattle.am_model_drain.specs.Rules.{next_time_out}
 use Rattle.am_model_drain.specs.Drain.{IsDrained}
-use Rattle.am_laws_drain_steps.specs.Enabled.{IsOfRun}
-use Rattle.am_laws_drain_steps.specs.Endings.{WithholdsNothing}
+use Rattle.am_laws_runs.specs.Turns.Enabled.{IsOfRun}
+use Rattle.am_laws_runs.specs.Turns.Endings.{WithholdsNothing}
 
 -- where nothing is to be received, no channel is bound that could time out
 abbrev pub NoneTimesOut : Type 0

@@ -3,14 +3,14 @@ use Rattle.std.specs.Prelude.{◌≡◌, ◌≤◌, ◌^◌, Some, false, List, 
 use Rattle.am_names.specs.Rules.{is_transient}
 use Rattle.am_names.specs.declared.Cause.{Cause}
 use Rattle.am_names.specs.declared.Serial.{Serial}
-use Rattle.am_office.specs.declared.Entry.{Entry}
-use Rattle.am_office.specs.declared.Part.{Part}
-use Rattle.am_office.specs.declared.endings.Fate.TheVariants as Fates
-use Rattle.am_office.specs.Fates.{fate}
+use Rattle.am_office_entries.specs.declared.Entry.{Entry}
+use Rattle.am_office_entries.specs.declared.Part.{Part}
+use Rattle.am_office_entries.specs.declared.endings.Fate.TheVariants as Fates
+use Rattle.am_office_entries.specs.Fates.{fate}
 use Rattle.am_scenario_types.specs.Lists.{ScenarioLists}
 use Rattle.am_model_drain.specs.Follows.{IsStoppedFor}
-use Rattle.am_laws_drain_steps.specs.Enabled.{IsOfRun}
-use Rattle.am_laws_drain_steps.specs.Endings.{IsOrderly, WithholdsNothing}
+use Rattle.am_laws_runs.specs.Turns.Enabled.{IsOfRun}
+use Rattle.am_laws_runs.specs.Turns.Endings.{IsOrderly, WithholdsNothing}
 
 -- in its journal each packet is received in its turn, and the last tries come last
 abbrev pub StoppedRunsAreOrderly : Type 0

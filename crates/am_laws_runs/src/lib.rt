@@ -3,12 +3,16 @@
 //! function with an empty body.
 #![tactic(auto)]
 
-ghost use Rattle.am_laws_drain_steps.specs.Endings.{ReturnsAreForGood};
+ghost use Rattle.am_laws_runs.specs.Turns.Endings.{ReturnsAreForGood};
 ghost use Rattle.am_laws_runs.specs.Drained.{BeginningsAreHistories, BeginningsAreShort, CutOffPhasesAreStopped, CutOffRunsAreStopped, CutOffsAreHistories, CutOffsAreShort, DrainsAreNotRefused, DrainsAreShort, EmptyIsGoodPhase, NoneIsRefused, PhasesWithRoomAreWhole, RoomKeepsLogs, RunsAreNotRefused, RunsAreShort, RunsAreWhole, RunsHaveShortLogs, RunsWithRoomAreWhole};
 ghost use Rattle.am_laws_runs.specs.Left.{DrainsLeaveNothing, DrainsReceiveAll};
 ghost use Rattle.am_laws_runs.specs.Returns.{DrainedReturnsAreForGood, NoneTimesOut};
 ghost use Rattle.am_laws_runs.specs.Stopped.{StoppedReturnsAreForGood, StoppedRunsAreOrderly};
 ghost use Rattle.am_laws_runs.specs.Short.{JournalsAreNumbered, JournalsAreShort};
+
+pub mod drains;
+pub mod ends;
+pub mod turns;
 
 /// A history of a lawful layout with no log longer than it may be has at most 272 times as many entries as a log.
 pub fn journals_are_short()

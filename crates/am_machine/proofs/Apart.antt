@@ -7,7 +7,7 @@ use Rattle.std.proofs.lemmas.List.Folds.{find_at}
 use Rattle.std.proofs.lemmas.Option.{slice_get_past, slice_get_within}
 use Rattle.am_lemmas.proofs.Lists.{slice_get-map_Some}
 use Rattle.am_names.specs.declared.EndpointId.{EndpointId}
-use Rattle.am_office.specs.declared.Entry.{Entry}
+use Rattle.am_office_entries.specs.declared.Entry.{Entry}
 use Rattle.am_model.proofs.Names.{same_end-is}
 use Rattle.am_model.specs.Layout.{Layout}
 use Rattle.am_endpoint.specs.View.{EndpointView}

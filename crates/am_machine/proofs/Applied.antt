@@ -9,15 +9,15 @@ use Rattle.std.proofs.lemmas.Option.{slice_get-get_or}
 use mathlib.Core.Bool.{or-false}
 use Rattle.am_names.specs.declared.EndpointId.{EndpointId}
 use Rattle.am_names.specs.Names.{same_end}
-use Rattle.am_office.specs.declared.Actor.{Actor}
-use Rattle.am_office.specs.declared.Call.{Call}
-use Rattle.am_office.specs.declared.Call.TheVariants as Calls
-use Rattle.am_office.specs.declared.Condition.{Condition}
-use Rattle.am_office.specs.declared.Event.{Event}
-use Rattle.am_office.specs.declared.Event.TheVariants as Events
-use Rattle.am_office.specs.declared.Outcome.TheVariants as Out
-use Rattle.am_office.specs.declared.Entry.{Entry}
-use Rattle.am_office.specs.Entries.{ends_touched, node_touched, touches}
+use Rattle.am_office_entries.specs.declared.Actor.{Actor}
+use Rattle.am_office_entries.specs.declared.Call.{Call}
+use Rattle.am_office_entries.specs.declared.Call.TheVariants as Calls
+use Rattle.am_office_entries.specs.declared.Condition.{Condition}
+use Rattle.am_office_entries.specs.declared.Event.{Event}
+use Rattle.am_office_entries.specs.declared.Event.TheVariants as Events
+use Rattle.am_office_entries.specs.declared.Outcome.TheVariants as Out
+use Rattle.am_office_entries.specs.declared.Entry.{Entry}
+use Rattle.am_office_entries.specs.Entries.{ends_touched, node_touched, touches}
 use Rattle.am_model.specs.Allowed.{are_numbers_in_range}
 use Rattle.am_model.specs.Endpoint.{State, is_on_disk}
 use Rattle.am_model.specs.Calls.{outcome_of_call}
@@ -28,8 +28,8 @@ use Rattle.am_model.specs.Layout.{declared}
 use Rattle.am_model.specs.Steps.{LogFull, NotEnabled, stop, stop_by, full_by, full_log, least_such, lesser, is_end_full}
 use Rattle.am_model_drain.specs.Made.{later_stamp, next_entry, next_stamp}
 use Rattle.am_model.specs.Choice.{first_holding}
-use Rattle.am_office.specs.declared.Condition.TheVariants as Needs
-use Rattle.am_office.specs.declared.Part.TheVariants as Parts
+use Rattle.am_office_entries.specs.declared.Condition.TheVariants as Needs
+use Rattle.am_office_entries.specs.declared.Part.TheVariants as Parts
 use Rattle.am_model.proofs.Names.{same_end-is, same_end-refl}
 use Rattle.am_model.proofs.Chosen.{least_such-None}
 use Rattle.am_scenario_types.specs.declared.parts.FaultLine.{FaultLine}
@@ -50,7 +50,7 @@ use Rattle.am_machine.specs.View.{ClusterView}
 use Rattle.am_machine.proofs.Direct.{off_disk}
 use Rattle.am_machine.proofs.Events.{call_enabled}
 use Rattle.am_model_drain.proofs.Entries.{entry_may_follow}
-use Rattle.am_machine_index.specs.View.{greatest_stamp}
+use Rattle.am_machine_journal.specs.Index.View.{greatest_stamp}
 use Rattle.am_machine.proofs.Holding.{swaps_same}
 use Rattle.am_machine.proofs.Places.{found, place_is, place_same}
 use Rattle.am_machine.proofs.Tied.{kept_at, kept_set, layout_kept, one_grown, own_at, own_state, tied_push}

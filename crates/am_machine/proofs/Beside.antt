@@ -10,12 +10,12 @@ use Rattle.am_names.specs.declared.EndpointId.{EndpointId}
 use Rattle.am_names.specs.declared.NodeId.{NodeId}
 use Rattle.am_names.specs.declared.Message.{Message}
 use Rattle.am_names.specs.declared.Packet.TheVariants as Packets
-use Rattle.am_office.specs.declared.Condition.{Condition}
-use Rattle.am_office.specs.declared.Condition.TheVariants as Needs
-use Rattle.am_office.specs.declared.Part.{Part}
-use Rattle.am_office.specs.declared.Part.TheVariants as Parts
-use Rattle.am_office.specs.declared.Entry.{Entry}
-use Rattle.am_office.specs.Entries.{ends_touched}
+use Rattle.am_office_entries.specs.declared.Condition.{Condition}
+use Rattle.am_office_entries.specs.declared.Condition.TheVariants as Needs
+use Rattle.am_office_entries.specs.declared.Part.{Part}
+use Rattle.am_office_entries.specs.declared.Part.TheVariants as Parts
+use Rattle.am_office_entries.specs.declared.Entry.{Entry}
+use Rattle.am_office_entries.specs.Entries.{ends_touched}
 use Rattle.am_model.specs.declared.Queued.{Queued}
 use Rattle.am_model.specs.Choice.{first_holding}
 use Rattle.am_model.specs.Changes.{flying_of}
@@ -33,11 +33,11 @@ use Rattle.am_model_parts.specs.Interface.{channel_in, channel_of_front, is_home
 use Rattle.am_model_parts.specs.Interface.{settles}
 use Rattle.am_model_parts.proofs.Outcomes.{same_ends}
 use Rattle.am_model_parts.proofs.Touched.{needs_touched}
-use Rattle.am_laws_homes.proofs.Homes.{front_addressed}
-use Rattle.am_laws_homes.proofs.Places.{fits_network}
-use Rattle.am_laws_packets.proofs.Packets.{bound_aloft}
+use Rattle.am_laws_cluster.proofs.HomesKept.{front_addressed}
+use Rattle.am_laws_cluster.proofs.HomePlaces.{fits_network}
+use Rattle.am_laws_cluster.proofs.PacketsFit.{bound_aloft}
 use Rattle.am_endpoint.specs.View.{EndpointView, state_after}
-use Rattle.am_machine_index.specs.View.{IsIndexOf, Readings}
+use Rattle.am_machine_journal.specs.Index.View.{IsIndexOf, Readings}
 use Rattle.am_iface.specs.View.{FitsInterface, InterfaceView, own}
 use Rattle.am_iface.specs.With.{HasRoomWith, IsFullOf, IsHomeKnown, KnowsHome}
 use Rattle.am_model.specs.declared.EntryFault.{EntryFault}

@@ -7,12 +7,12 @@ use Rattle.am_names.specs.declared.Message.{Message}
 use Rattle.am_names.specs.declared.Packet.{Packet}
 use Rattle.am_names.specs.declared.Packet.TheVariants as Packets
 use Rattle.am_names.specs.declared.Verdict.{Verdict}
-use Rattle.am_office.specs.declared.Event.{Event}
-use Rattle.am_office.specs.declared.Event.TheVariants as Events
-use Rattle.am_office.specs.declared.Outcome.{Outcome}
-use Rattle.am_office.specs.declared.Outcome.TheVariants as Out
-use Rattle.am_office.specs.declared.Entry.{Entry}
-use Rattle.am_office.specs.Entries.{answer_by, answer_packet, emitted_in, parcel}
+use Rattle.am_office_entries.specs.declared.Event.{Event}
+use Rattle.am_office_entries.specs.declared.Event.TheVariants as Events
+use Rattle.am_office_entries.specs.declared.Outcome.{Outcome}
+use Rattle.am_office_entries.specs.declared.Outcome.TheVariants as Out
+use Rattle.am_office_entries.specs.declared.Entry.{Entry}
+use Rattle.am_office_entries.specs.Entries.{answer_by, answer_packet, emitted_in, parcel}
 use Rattle.am_model.specs.declared.Queued.{Queued}
 use Rattle.am_model.specs.Channels.{attempt, bound_message, emitted, sequence}
 use Rattle.am_model.specs.Endpoint.{front}
@@ -20,7 +20,7 @@ use Rattle.am_model.specs.History.{bind, bind_to, channel_for, channel_to, expir
 use Rattle.am_model.specs.Changes.{flying_of}
 use Rattle.am_model.specs.Layout.{IsLawful, Layout, declared, home}
 use Rattle.am_model.specs.Packets.{receiver_of, from_of}
-use Rattle.am_laws_homes.proofs.Homes.{home_below}
+use Rattle.am_laws_cluster.proofs.HomesKept.{home_below}
 
 pub record IsBetween (layout : Layout) (p : Packet) : Type 0 where
   pub from : (from_of p).0 < layout.nodes

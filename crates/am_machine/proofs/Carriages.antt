@@ -11,17 +11,17 @@ use Rattle.am_names.specs.declared.Verdict.{Verdict}
 use Rattle.am_names.specs.declared.Verdict.TheVariants as Verdicts
 use Rattle.am_names.specs.Names.{same_end, is_well_formed}
 use Rattle.am_names.specs.Rules.{is_transient}
-use Rattle.am_office.specs.declared.Event.{Event}
-use Rattle.am_office.specs.declared.Event.TheVariants as Events
-use Rattle.am_office.specs.declared.Outcome.TheVariants as Out
-use Rattle.am_office.specs.declared.Entry.{Entry}
-use Rattle.am_office.specs.Entries.{ends_touched, touches}
+use Rattle.am_office_entries.specs.declared.Event.{Event}
+use Rattle.am_office_entries.specs.declared.Event.TheVariants as Events
+use Rattle.am_office_entries.specs.declared.Outcome.TheVariants as Out
+use Rattle.am_office_entries.specs.declared.Entry.{Entry}
+use Rattle.am_office_entries.specs.Entries.{ends_touched, touches}
 use Rattle.am_model.specs.declared.Queued.{Queued}
 use Rattle.am_model.specs.Allowed.{arrival_verdict, arrived_message, is_carry_from, is_network_of}
 use Rattle.am_model.specs.Endpoint.{State, front, is_direct, verdict}
 use Rattle.am_model.specs.Layout.{Layout, declared}
-use Rattle.am_laws_homes.proofs.Homes.{front_addressed}
-use Rattle.am_laws_homes.proofs.Places.{fits_network}
+use Rattle.am_laws_cluster.proofs.HomesKept.{front_addressed}
+use Rattle.am_laws_cluster.proofs.HomePlaces.{fits_network}
 use Rattle.am_model.specs.History.{is_in_range, carry, judged, outcome_of, state_of}
 use Rattle.am_model.specs.Steps.{stop}
 use Rattle.am_model_drain.specs.Made.{next_entry, next_stamp}

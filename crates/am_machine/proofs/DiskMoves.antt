@@ -9,10 +9,10 @@ use Rattle.std.proofs.lemmas.Option.{slice_get-get_or}
 use Rattle.am_names.specs.declared.EndpointId.{EndpointId}
 use Rattle.am_names.specs.declared.NodeId.{NodeId}
 use Rattle.am_names.specs.Names.{same_node}
-use Rattle.am_office.specs.declared.Event.{Event}
-use Rattle.am_office.specs.declared.Event.TheVariants as Events
-use Rattle.am_office.specs.declared.Outcome.TheVariants as Out
-use Rattle.am_office.specs.declared.Entry.{Entry}
+use Rattle.am_office_entries.specs.declared.Event.{Event}
+use Rattle.am_office_entries.specs.declared.Event.TheVariants as Events
+use Rattle.am_office_entries.specs.declared.Outcome.TheVariants as Out
+use Rattle.am_office_entries.specs.declared.Entry.{Entry}
 use Rattle.am_model.specs.Endpoint.{State, is_on_disk}
 use Rattle.am_model.specs.History.{MayFollow, is_page_call, outcome_of, page, state_of, page_calls}
 use Rattle.am_model.specs.Layout.{Fault, Layout}
@@ -21,7 +21,7 @@ use Rattle.am_model.proofs.Names.{same_end-is}
 use Rattle.am_model_parts.specs.Driver.{end_moved}
 use Rattle.am_model.specs.Parts.{driver_of}
 use Rattle.am_model_parts.specs.Granted.{MayMove}
-use Rattle.am_laws_disk.specs.Disk.{pages_out}
+use Rattle.am_laws_cluster.specs.Disk.Disk.{pages_out}
 use Rattle.am_model_drain.proofs.Entries.{entry_may_follow}
 use Rattle.am_swap_device.specs.Causes.{fails_after, one_more}
 use Rattle.am_swap_device.specs.Memory.{Store}

@@ -6,7 +6,7 @@ use Rattle.std.proofs.lemmas.List.{length-map}
 use Rattle.std.proofs.lemmas.List.Sums.{sum_by-cons}
 use Rattle.am_names.specs.declared.NodeId.{NodeId}
 use Rattle.am_names.specs.Names.{same_node}
-use Rattle.am_office.specs.declared.Entry.{Entry}
+use Rattle.am_office_entries.specs.declared.Entry.{Entry}
 use Rattle.am_model.specs.Layout.{AllAre, EndSetting, IsLawful, IsSettingLawful, Layout, node_at}
 use Rattle.am_model.specs.Merge.{is_before}
 use Rattle.am_model.proofs.Received.{bit}
@@ -14,8 +14,8 @@ use Rattle.am_model.proofs.Alls.{all_by_place, all_append}
 use Rattle.am_model_merge.specs.Merged.{entries_of, inserted, is_same, sorted}
 use Rattle.am_iface.specs.View.{InterfaceView}
 use Rattle.am_swap_device.specs.Memory.{Store}
-use Rattle.am_machine_index.specs.View.{CanCount, IsIndexOf, Readings}
-use Rattle.am_machine_index.proofs.Growing.{can_count}
+use Rattle.am_machine_journal.specs.Index.View.{CanCount, IsIndexOf, Readings}
+use Rattle.am_machine_journal.proofs.Growing.{can_count}
 use Rattle.am_driver_moves.specs.Logs.{EndLog}
 use Rattle.am_machine.specs.Ends.{setting_in}
 use Rattle.am_machine.specs.Kept.{IsKept, IsOwn, IsShort, end_logs, interface_logs, logs_in}

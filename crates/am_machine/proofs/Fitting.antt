@@ -11,11 +11,11 @@ use Rattle.am_names.specs.declared.NodeId.{NodeId}
 use Rattle.am_names.specs.declared.Packet.{Packet}
 use Rattle.am_names.specs.declared.Packet.TheVariants as Packets
 use Rattle.am_names.specs.declared.Message.{Message}
-use Rattle.am_office.specs.declared.Condition.TheVariants as Needs
-use Rattle.am_office.specs.declared.Place.TheVariants.{Host}
-use Rattle.am_office.specs.declared.Event.TheVariants as Events
-use Rattle.am_office.specs.declared.Entry.{Entry}
-use Rattle.am_office.specs.Entries.{touches_node}
+use Rattle.am_office_entries.specs.declared.Condition.TheVariants as Needs
+use Rattle.am_office_entries.specs.declared.Place.TheVariants.{Host}
+use Rattle.am_office_entries.specs.declared.Event.TheVariants as Events
+use Rattle.am_office_entries.specs.declared.Entry.{Entry}
+use Rattle.am_office_entries.specs.Entries.{touches_node}
 use Rattle.am_model.specs.Channels.{Again, Arrival, Fresh, Stale, bound_message, emitted}
 use Rattle.am_model.specs.Endpoint.{State, fresh}
 use Rattle.am_model.specs.Choice.{first_holding}
@@ -29,9 +29,9 @@ use Rattle.am_model_parts.specs.Together.{IsState}
 use Rattle.am_model.specs.Packets.{from_of, number_of}
 use Rattle.am_model_parts.proofs.Outcomes.{same_ends, received_event}
 use Rattle.am_model_parts.proofs.Numbering.{history_numbered, numbered_place}
-use Rattle.am_laws_packets.proofs.Packets.{bound_aloft, packets_fit}
+use Rattle.am_laws_cluster.proofs.PacketsFit.{bound_aloft, packets_fit}
 use Rattle.am_model_drain.proofs.Entries.{entry_may_follow}
-use Rattle.am_machine_index.specs.View.{IsIndexOf, Readings, greatest_stamp}
+use Rattle.am_machine_journal.specs.Index.View.{IsIndexOf, Readings, greatest_stamp}
 use Rattle.am_scenario_types.specs.declared.parts.FaultLine.{FaultLine}
 use Rattle.am_endpoint.specs.View.{EndpointView}
 use Rattle.am_iface.specs.View.{FitsInterface, InterfaceView, own}

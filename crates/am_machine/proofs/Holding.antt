@@ -9,11 +9,11 @@ use Rattle.am_lemmas.proofs.Lists.{slice_get-set_cases}
 use Rattle.am_names.specs.declared.EndpointId.{EndpointId}
 use Rattle.am_names.specs.declared.NodeId.{NodeId}
 use Rattle.am_names.specs.Names.{same_end, same_node}
-use Rattle.am_office.specs.declared.Event.{Event}
-use Rattle.am_office.specs.declared.Event.TheVariants as Events
-use Rattle.am_office.specs.declared.Outcome.TheVariants as Out
-use Rattle.am_office.specs.declared.Entry.{Entry}
-use Rattle.am_office.specs.Entries.{ends_touched, touches}
+use Rattle.am_office_entries.specs.declared.Event.{Event}
+use Rattle.am_office_entries.specs.declared.Event.TheVariants as Events
+use Rattle.am_office_entries.specs.declared.Outcome.TheVariants as Out
+use Rattle.am_office_entries.specs.declared.Entry.{Entry}
+use Rattle.am_office_entries.specs.Entries.{ends_touched, touches}
 use Rattle.am_model.specs.Changes.{changed, paged_out}
 use Rattle.am_model.specs.Endpoint.{Body, State, is_on_disk}
 use Rattle.am_model.specs.History.{IsHistory, MayFollow, is_home, is_page_call, state_of, page_calls, is_home_by}
@@ -24,8 +24,8 @@ use Rattle.am_model.proofs.Unchanged.{paged_out_body}
 use Rattle.am_model.proofs.PlaceKinds.{on_host_not_on_disk}
 use Rattle.am_model_parts.proofs.Growing.{calls_push}
 use Rattle.am_model_parts.proofs.Homes.{one_home}
-use Rattle.am_laws_disk.specs.Disk.{StaysOnDisk, pages_out}
-use Rattle.am_laws_disk.proofs.Still.{stays}
+use Rattle.am_laws_cluster.specs.Disk.Disk.{StaysOnDisk, pages_out}
+use Rattle.am_laws_cluster.proofs.Still.{stays}
 use Rattle.am_swap_device.specs.Causes.{fails_after, one_more}
 use Rattle.am_swap_device.specs.Memory.{Store, counted, faulted, held_for, with_held}
 use Rattle.am_swap_device.proofs.Held.{holds_instead}

@@ -1,12 +1,12 @@
 -- What a cluster keeps and what its callers see of it, where its parts keep a journal of which it has the index.
 use Rattle.std.proofs.Common.{◌≡◌, ◌+◌, ◌<◌, ◌^◌, List, length, refl, sym, ◌∙◌, subst, arith}
 use Rattle.std.specs.Prelude.{Result}
-use Rattle.am_office.specs.declared.Event.{Event}
-use Rattle.am_office.specs.declared.Entry.{Entry}
+use Rattle.am_office_entries.specs.declared.Event.{Event}
+use Rattle.am_office_entries.specs.declared.Entry.{Entry}
 use Rattle.am_scenario_types.specs.declared.parts.FaultLine.{FaultLine}
 use Rattle.am_iface.specs.View.{InterfaceView}
 use Rattle.am_swap_device.specs.Memory.{Store}
-use Rattle.am_machine_index.specs.View.{CanCount, IsIndexOf, Readings}
+use Rattle.am_machine_journal.specs.Index.View.{CanCount, IsIndexOf, Readings}
 use Rattle.am_machine.specs.declared.settings.Settings.{Settings}
 use Rattle.am_model.specs.declared.EntryFault.{EntryFault}
 use Rattle.am_driver_moves.specs.Logs.{EndLog}

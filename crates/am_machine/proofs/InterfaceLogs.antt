@@ -8,8 +8,8 @@ use Rattle.std.proofs.lemmas.List.Elements.{filter-append}
 use Rattle.am_lemmas.proofs.Lists.{slice_get-set_cases}
 use Rattle.am_names.specs.declared.NodeId.{NodeId}
 use Rattle.am_names.specs.Names.{same_node}
-use Rattle.am_office.specs.declared.Entry.{Entry}
-use Rattle.am_office.specs.Entries.{is_node, node_touched, touches_node}
+use Rattle.am_office_entries.specs.declared.Entry.{Entry}
+use Rattle.am_office_entries.specs.Entries.{is_node, node_touched, touches_node}
 use Rattle.am_model.specs.Layout.{Layout, node_at}
 use Rattle.am_iface.specs.View.{InterfaceView}
 use Rattle.am_machine.specs.Interfaces.{AreInterfaces, IsInterface}

@@ -9,13 +9,13 @@ use Rattle.std.proofs.lemmas.List.Elements.{filter-append}
 use Rattle.std.proofs.lemmas.Option.{slice_get-get_or}
 use Rattle.am_names.specs.declared.EndpointId.{EndpointId}
 use Rattle.am_names.specs.declared.NodeId.{NodeId}
-use Rattle.am_office.specs.declared.Condition.TheVariants as Needs
-use Rattle.am_office.specs.declared.Entry.{Entry}
-use Rattle.am_office.specs.declared.Event.{Event}
-use Rattle.am_office.specs.declared.Event.TheVariants as Events
-use Rattle.am_office.specs.declared.Outcome.{Outcome}
+use Rattle.am_office_entries.specs.declared.Condition.TheVariants as Needs
+use Rattle.am_office_entries.specs.declared.Entry.{Entry}
+use Rattle.am_office_entries.specs.declared.Event.{Event}
+use Rattle.am_office_entries.specs.declared.Event.TheVariants as Events
+use Rattle.am_office_entries.specs.declared.Outcome.{Outcome}
 use Rattle.am_names.specs.Names.{same_end}
-use Rattle.am_office.specs.Entries.{ends_touched, is_node, node_touched, reached_by, touches, touches_node}
+use Rattle.am_office_entries.specs.Entries.{ends_touched, is_node, node_touched, reached_by, touches, touches_node}
 use Rattle.am_model.specs.Channels.{emitted}
 use Rattle.am_model.specs.Endpoint.{front}
 use Rattle.am_model.specs.History.{IsHistory, MayFollow, channel_for, channel_to, failing, is_bound, is_home, is_in_range, state_of}

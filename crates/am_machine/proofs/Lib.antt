@@ -29,3 +29,10 @@ pub mod Apart
 pub mod LastMade
 pub mod Making
 pub mod Refusing
+pub mod Pushed
+pub mod Dealers
+pub mod Assembled
+pub mod Takings
+pub mod Gatherers
+pub mod NodeLogs
+pub mod Read

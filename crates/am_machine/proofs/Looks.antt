@@ -11,17 +11,17 @@ use Rattle.std.proofs.lemmas.Option.{slice_get-get_or}
 use Rattle.am_names.specs.declared.EndpointId.{EndpointId}
 use Rattle.am_names.specs.declared.NodeId.{NodeId}
 use Rattle.am_names.specs.Names.{same_end}
-use Rattle.am_office.specs.declared.Event.{Event}
-use Rattle.am_office.specs.declared.Event.TheVariants as Events
-use Rattle.am_office.specs.declared.Entry.{Entry}
-use Rattle.am_office.specs.Entries.{is_node, node_touched, touches, touches_node}
+use Rattle.am_office_entries.specs.declared.Event.{Event}
+use Rattle.am_office_entries.specs.declared.Event.TheVariants as Events
+use Rattle.am_office_entries.specs.declared.Entry.{Entry}
+use Rattle.am_office_entries.specs.Entries.{is_node, node_touched, touches, touches_node}
 use Rattle.am_model.specs.History.{state_of}
 use Rattle.am_model.specs.Endpoint.{State, is_on_disk}
 use Rattle.am_model.specs.Layout.{EndSetting, Layout, declared, has_id, home, home_by, opening, opening_by, opening_place}
 use Rattle.am_model.proofs.Names.{same_end-refl}
 use Rattle.am_endpoint.specs.View.{EndpointView, state_after}
 use Rattle.am_iface.specs.View.{InterfaceView}
-use Rattle.am_machine_index.specs.View.{is_receipt, receipts}
+use Rattle.am_machine_journal.specs.Index.View.{is_receipt, receipts}
 use Rattle.am_driver_moves.specs.Logs.{EndLog, kept}
 use Rattle.am_machine.specs.Ends.{is_of, setting_in, settings_by}
 use Rattle.am_endpoint_body.specs.declared.settings.EndSettings.{EndSettings}

@@ -1,8 +1,8 @@
 -- What is made, where the entry that is made isn't answered.
 use Rattle.std.specs.Prelude.{Result, Ok, Err}
 use Rattle.std.proofs.Common.{◌≡◌, [], ◌∷◌, ◌++◌, sym, ap, ◌∙◌}
-use Rattle.am_office.specs.declared.Entry.{Entry}
-use Rattle.am_office.specs.declared.Event.{Event}
+use Rattle.am_office_entries.specs.declared.Entry.{Entry}
+use Rattle.am_office_entries.specs.declared.Event.{Event}
 use Rattle.am_model.specs.declared.EntryFault.{EntryFault}
 use Rattle.am_model_drain.specs.Made.{next_entry}
 use Rattle.am_machine.specs.Turned.{told}

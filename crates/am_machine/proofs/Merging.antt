@@ -7,11 +7,11 @@ use Rattle.am_lemmas.proofs.Lists.{slice_get-Some}
 use Rattle.am_names.specs.declared.EndpointId.{EndpointId}
 use Rattle.am_names.specs.declared.NodeId.{NodeId}
 use Rattle.am_names.specs.Names.{same_end}
-use Rattle.am_office.specs.declared.Event.{Event}
-use Rattle.am_office.specs.declared.Event.TheVariants as Events
-use Rattle.am_office.specs.declared.Outcome.{Outcome}
-use Rattle.am_office.specs.declared.Entry.{Entry}
-use Rattle.am_office.specs.Entries.{ends_touched, is_node, node_touched, touches, touches_node}
+use Rattle.am_office_entries.specs.declared.Event.{Event}
+use Rattle.am_office_entries.specs.declared.Event.TheVariants as Events
+use Rattle.am_office_entries.specs.declared.Outcome.{Outcome}
+use Rattle.am_office_entries.specs.declared.Entry.{Entry}
+use Rattle.am_office_entries.specs.Entries.{ends_touched, is_node, node_touched, touches, touches_node}
 use Rattle.am_model.specs.History.{EachAfter, MayFollow, failing}
 use Rattle.am_model.specs.Layout.{AllAre, EndSetting, Layout, declared, node_at}
 use Rattle.am_model.proofs.Alls.{all_by_place, all_append}
@@ -21,11 +21,11 @@ use Rattle.am_swap_device.specs.Memory.{Store}
 use Rattle.am_model_merge.specs.Logs.{IsRising}
 use Rattle.am_model_merge.specs.Merged.{entries_of}
 use Rattle.am_model_merge.proofs.Sorted.{Has, contains_has, filter_has, has_contains, has_first, has_last}
-use Rattle.am_laws_homes.proofs.Places.{condition_holds}
-use Rattle.am_machine_join.specs.Joined.{AreOne, HaveJust}
-use Rattle.am_machine_join.proofs.OneJournal.{are_one, merged_is}
+use Rattle.am_laws_cluster.proofs.HomePlaces.{condition_holds}
+use Rattle.am_machine_journal.specs.Merge.Joined.{AreOne, HaveJust}
+use Rattle.am_machine_journal.proofs.OneJournal.{are_one, merged_is}
 use Rattle.am_endpoint.specs.View.{EndpointView}
-use Rattle.am_machine_node.specs.Parts.{log_of}
+use Rattle.am_machine.specs.Node.Parts.{log_of}
 use Rattle.am_driver_moves.specs.Logs.{EndLog, kept}
 use Rattle.am_machine.specs.Ends.{setting_in}
 use Rattle.am_machine.specs.Interfaces.{IsInterface}

@@ -8,20 +8,20 @@ use Rattle.am_lemmas.proofs.Options.{some_is}
 use Rattle.am_names.specs.declared.EndpointId.{EndpointId}
 use Rattle.am_names.specs.declared.NodeId.{NodeId}
 use Rattle.am_names.specs.Names.{same_node}
-use Rattle.am_office.specs.declared.Condition.{Condition}
-use Rattle.am_office.specs.declared.Condition.TheVariants as Needs
-use Rattle.am_office.specs.declared.Event.{Event}
-use Rattle.am_office.specs.declared.Event.TheVariants as Events
-use Rattle.am_office.specs.declared.Outcome.{Outcome}
-use Rattle.am_office.specs.declared.Outcome.TheVariants as Out
-use Rattle.am_office.specs.declared.Entry.{Entry}
-use Rattle.am_office.specs.Entries.{emitted_in, ends_touched, node_touched, is_node}
+use Rattle.am_office_entries.specs.declared.Condition.{Condition}
+use Rattle.am_office_entries.specs.declared.Condition.TheVariants as Needs
+use Rattle.am_office_entries.specs.declared.Event.{Event}
+use Rattle.am_office_entries.specs.declared.Event.TheVariants as Events
+use Rattle.am_office_entries.specs.declared.Outcome.{Outcome}
+use Rattle.am_office_entries.specs.declared.Outcome.TheVariants as Out
+use Rattle.am_office_entries.specs.declared.Entry.{Entry}
+use Rattle.am_office_entries.specs.Entries.{emitted_in, ends_touched, node_touched, is_node}
 use Rattle.am_model.specs.Endpoint.{State, is_direct}
 use Rattle.am_model.specs.Layout.{Layout, EndSetting, AllAre, declared, has_id, home, home_by}
 use Rattle.am_model.specs.History.{failing, is_frame_held, is_home, is_in_frame, is_in_range, outcome_of, state_of}
 use Rattle.am_model.specs.Steps.{LogFull, stop}
 use Rattle.am_model_drain.specs.Made.{next_entry}
-use Rattle.am_office.specs.declared.Part.TheVariants as Parts
+use Rattle.am_office_entries.specs.declared.Part.TheVariants as Parts
 use Rattle.am_model_parts.specs.Driver.{DriverLog, end_moved, failing_move, outcome_move}
 use Rattle.am_model.specs.Parts.{driver_of, is_by_driver}
 use Rattle.am_model_parts.specs.Granted.{MayMove}
@@ -29,11 +29,11 @@ use Rattle.am_model_parts.specs.Together.{IsDriverPart, IsState, ends_of, faults
 use Rattle.am_model_parts.proofs.Granting.{move_granted}
 use Rattle.am_model_parts.proofs.Homes.{home_is}
 use Rattle.am_model_parts.proofs.Moves.{move_local}
-use Rattle.am_laws_homes.proofs.Places.{fits_network}
+use Rattle.am_laws_cluster.proofs.HomePlaces.{fits_network}
 use Rattle.am_scenario_types.specs.declared.parts.FaultLine.{FaultLine}
 use Rattle.am_endpoint.specs.View.{EndpointView, state_after, state_by}
 use Rattle.am_endpoint_body.specs.declared.settings.EndSettings.{EndSettings}
-use Rattle.am_machine_index.specs.View.{AreNodes}
+use Rattle.am_machine_journal.specs.Index.View.{AreNodes}
 use Rattle.am_driver_moves.specs.Logs.{EndLog, kept}
 use Rattle.am_machine.specs.Ends.{is_of, setting_in}
 use Rattle.am_machine.specs.Kept.{IsOwn, IsTied, layout_in}

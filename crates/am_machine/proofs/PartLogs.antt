@@ -8,11 +8,11 @@ use Rattle.am_lemmas.proofs.Lists.{slice_get-Some}
 use Rattle.am_names.specs.declared.EndpointId.{EndpointId}
 use Rattle.am_names.specs.declared.NodeId.{NodeId}
 use Rattle.am_names.specs.Names.{same_end}
-use Rattle.am_office.specs.declared.Event.{Event}
-use Rattle.am_office.specs.declared.Event.TheVariants as Events
-use Rattle.am_office.specs.declared.Outcome.{Outcome}
-use Rattle.am_office.specs.declared.Entry.{Entry}
-use Rattle.am_office.specs.Entries.{ends_touched, is_node, node_touched, share_part, shares_node, touches, touches_node}
+use Rattle.am_office_entries.specs.declared.Event.{Event}
+use Rattle.am_office_entries.specs.declared.Event.TheVariants as Events
+use Rattle.am_office_entries.specs.declared.Outcome.{Outcome}
+use Rattle.am_office_entries.specs.declared.Entry.{Entry}
+use Rattle.am_office_entries.specs.Entries.{ends_touched, is_node, node_touched, share_part, shares_node, touches, touches_node}
 use Rattle.am_model.specs.History.{EachAfter, IsHistory, MayFollow, is_in_range, is_later, is_taken_before}
 use Rattle.am_model.specs.Layout.{AllAre, EndSetting, IsLawful, IsSettingLawful, Layout, declared, has_id, node_at}
 use Rattle.am_model.proofs.Names.{same_end-is, same_end-first}
@@ -21,14 +21,14 @@ use Rattle.am_endpoint.specs.View.{EndpointView}
 use Rattle.am_model_merge.specs.Logs.{IsRising}
 use Rattle.am_model_merge.specs.Merged.{entries_of}
 use Rattle.am_model_merge.proofs.Sorted.{Has, all_has, contains_has, filter_has, has_contains, has_filter, has_first, has_last, has_append}
-use Rattle.am_machine_join.specs.Joined.{AreAmong, HaveJust}
-use Rattle.am_machine_node.specs.declared.NodePart.{NodePart}
-use Rattle.am_machine_node.specs.Parts.{all_logs, log_of, logs_of_part}
+use Rattle.am_machine_journal.specs.Merge.Joined.{AreAmong, HaveJust}
+use Rattle.am_machine.specs.declared.node.NodePart.{NodePart}
+use Rattle.am_machine.specs.Node.Parts.{all_logs, log_of, logs_of_part}
 use Rattle.am_driver_moves.specs.Logs.{kept}
 use Rattle.am_machine.specs.Ends.{setting_in}
 use Rattle.am_machine.specs.Kept.{IsOwn}
 use Rattle.am_machine.specs.Parts.{AreNodeParts, IsNodePart}
-use Rattle.am_machine_node.specs.Gathered.{is_declared_at}
+use Rattle.am_machine.specs.Node.Gathered.{is_declared_at}
 
 -- ---- each log is a part of the journal
 

@@ -6,23 +6,23 @@ use Rattle.std.proofs.Common.{◌≡◌, ℕ, zero, suc, ◌<◌, Bool, true, fa
 use Rattle.std.proofs.lemmas.Option.{slice_get_within}
 use Rattle.am_lemmas.proofs.Lists.{slice_get-Some}
 use Rattle.am_names.specs.declared.Packet.{Packet}
-use Rattle.am_office.specs.declared.Entry.{Entry}
+use Rattle.am_office_entries.specs.declared.Entry.{Entry}
 use Rattle.am_model.specs.Layout.{AllAre, EndSetting, IsLawful, IsSettingLawful, Layout, node_at}
 use Rattle.am_endpoint.specs.View.{EndpointView}
 use Rattle.am_iface.specs.View.{InterfaceView}
 use Rattle.am_swap_device.specs.Memory.{Store}
-use Rattle.am_machine_node.specs.declared.NodePart.{NodePart}
-use Rattle.am_machine_node.specs.declared.shells.Shell.{Shell}
-use Rattle.am_machine_node.specs.Dealt.{AreDealt, FitsShells}
-use Rattle.am_machine_node.specs.Parts.{part_of, parts_of}
-use Rattle.am_machine_node.specs.Shells.{AreShells, is_at}
+use Rattle.am_machine.specs.declared.node.NodePart.{NodePart}
+use Rattle.am_machine.specs.declared.node.shells.Shell.{Shell}
+use Rattle.am_machine.specs.Node.Dealt.{AreDealt, FitsShells}
+use Rattle.am_machine.specs.Node.Parts.{part_of, parts_of}
+use Rattle.am_machine.specs.Node.Shells.{AreShells, is_at}
 use Rattle.am_driver_moves.specs.Logs.{kept}
 use Rattle.am_machine.specs.Ends.{setting_in}
 use Rattle.am_machine.specs.Interfaces.{AreInterfaces}
 use Rattle.am_machine.specs.Kept.{IsOwn}
 use Rattle.am_machine.specs.Parts.{AreNodeParts, IsNodePart}
 use Rattle.am_machine.specs.Swaps.{AreSwaps}
-use Rattle.am_machine_node.specs.Gathered.{is_declared_at}
+use Rattle.am_machine.specs.Node.Gathered.{is_declared_at}
 
 -- ---- there is room for all endpoints
 

@@ -9,11 +9,11 @@ use Rattle.std.proofs.lemmas.Bool.{and_parts}
 use Rattle.std.proofs.lemmas.Option.{slice_get-get_or}
 use Rattle.std.proofs.lemmas.List.Sorted.{Contains-permutation, IsPermutation-reverse, IsPermutation-sym}
 use Rattle.am_names.specs.declared.Packet.{Packet}
-use Rattle.am_office.specs.declared.Outcome.{Outcome}
-use Rattle.am_office.specs.declared.Event.TheVariants as Events
-use Rattle.am_office.specs.declared.Event.{Event}
-use Rattle.am_office.specs.declared.Entry.{Entry}
-use Rattle.am_office.specs.Entries.{emitted_in, emitted_of}
+use Rattle.am_office_entries.specs.declared.Outcome.{Outcome}
+use Rattle.am_office_entries.specs.declared.Event.TheVariants as Events
+use Rattle.am_office_entries.specs.declared.Event.{Event}
+use Rattle.am_office_entries.specs.declared.Entry.{Entry}
+use Rattle.am_office_entries.specs.Entries.{emitted_in, emitted_of}
 use Rattle.am_model.specs.History.{EachAfter, MayFollow, is_in_range}
 use Rattle.am_model.specs.Layout.{AllAre, EndSetting, IsLawful, IsSettingLawful, Layout, declared, node_at}
 use Rattle.am_model.specs.Merge.{is_ordered}
@@ -23,20 +23,20 @@ use Rattle.am_endpoint.specs.View.{EndpointView}
 use Rattle.am_iface.specs.View.{InterfaceView}
 use Rattle.am_swap_device.specs.Memory.{Store}
 use Rattle.am_model_scripts.specs.Layout.{fault_of, layout_of, setting_of}
-use Rattle.am_machine_index.specs.View.{AreNodes, IsEarly, IsBetweenNodes}
+use Rattle.am_machine_journal.specs.Index.View.{AreNodes, IsEarly, IsBetweenNodes}
 use Rattle.am_lemmas.proofs.Lists.{All-slice_get as all_got}
-use Rattle.am_machine_join.proofs.Standing.{behind}
+use Rattle.am_machine_journal.proofs.Standing.{behind}
 use Rattle.am_model_merge.specs.Logs.{IsRising}
 use Rattle.am_model_merge.specs.Merged.{entries_of}
 use Rattle.am_model_merge.proofs.Inserting.{sorted_ordered}
-use Rattle.am_machine_join.specs.Joined.{AreOne}
-use Rattle.am_machine_join.proofs.OneJournal.{are_one}
-use Rattle.am_machine_node.specs.declared.NodePart.{NodePart}
-use Rattle.am_machine_node.specs.Gathered.{AreDeclared, AreOfGroups}
-use Rattle.am_machine_node.specs.Gathered as gathered
-use Rattle.am_machine_node.specs.Packets.{GoesWithin}
-use Rattle.am_machine_node.specs.Parts.{all_logs, journal_of}
-use Rattle.am_machine_node.specs.Taken.{ends_of, iface_of, swap_of, turned}
+use Rattle.am_machine_journal.specs.Merge.Joined.{AreOne}
+use Rattle.am_machine_journal.proofs.OneJournal.{are_one}
+use Rattle.am_machine.specs.declared.node.NodePart.{NodePart}
+use Rattle.am_machine.specs.Node.Gathered.{AreDeclared, AreOfGroups}
+use Rattle.am_machine.specs.Node.Gathered as gathered
+use Rattle.am_machine.specs.Node.Packets.{GoesWithin}
+use Rattle.am_machine.specs.Node.Parts.{all_logs, journal_of}
+use Rattle.am_machine.specs.Node.Taken.{ends_of, iface_of, swap_of, turned}
 use Rattle.am_scenario_types.specs.declared.parts.EndLine.{EndLine}
 use Rattle.am_scenario_types.specs.declared.parts.FaultLine.{FaultLine}
 use Rattle.am_scenario_types.specs.Lists.{ScenarioLists}

@@ -4,7 +4,7 @@ use Rattle.std.proofs.Common.{◌≡◌, ℕ, ◌<◌, List, map, length, Some, 
 use Rattle.std.proofs.lemmas.List.{length-map}
 use Rattle.am_lemmas.proofs.Lists.{slice_get-map_Some}
 use Rattle.std.proofs.lemmas.Option.{slice_get-get_or}
-use Rattle.am_office.specs.declared.Entry.{Entry}
+use Rattle.am_office_entries.specs.declared.Entry.{Entry}
 use Rattle.am_model.specs.History.{state_of}
 use Rattle.am_model.specs.Layout.{EndSetting, Layout}
 use Rattle.am_endpoint.specs.View.{EndpointView, state_after}

@@ -7,7 +7,7 @@ use Rattle.std.proofs.Common.{ap, ◌∙◌, subst, arith, eqb-true, ltb-true, l
 use Rattle.std.proofs.lemmas.Option.{slice_get_within, slice_get-get_or}
 use Rattle.am_lemmas.proofs.Lists.{slice_get-set_here}
 use Rattle.am_names.specs.declared.EndpointId.{EndpointId}
-use Rattle.am_office.specs.declared.Entry.{Entry}
+use Rattle.am_office_entries.specs.declared.Entry.{Entry}
 use Rattle.am_model.specs.Layout.{has_id}
 use Rattle.am_endpoint.specs.View.{EndpointView}
 use Rattle.am_driver_moves.specs.Logs.{kept}

@@ -5,8 +5,8 @@ use Rattle.std.proofs.Common.{◌≡◌, ℕ, ◌<◌, ◌≤◌, true, false, L
 use Rattle.am_lemmas.proofs.Lists.{slice_get-None}
 use Rattle.am_names.specs.declared.EndpointId.{EndpointId}
 use Rattle.am_names.specs.declared.NodeId.{NodeId}
-use Rattle.am_office.specs.declared.Entry.{Entry}
-use Rattle.am_office.specs.Entries.{touches, touches_node}
+use Rattle.am_office_entries.specs.declared.Entry.{Entry}
+use Rattle.am_office_entries.specs.Entries.{touches, touches_node}
 use Rattle.am_model.specs.Layout.{Layout, declared}
 use Rattle.am_model.proofs.Alls.{all_at}
 use Rattle.am_endpoint.specs.View.{EndpointView}

@@ -5,21 +5,21 @@ use Rattle.std.proofs.Common.{subst, length-append, arith}
 use Rattle.std.specs.List.{filter}
 use Rattle.std.proofs.lemmas.List.{append-nil}
 use Rattle.std.proofs.lemmas.List.Elements.{filter-append}
-use Rattle.am_office.specs.declared.Event.{Event}
-use Rattle.am_office.specs.declared.Entry.{Entry}
-use Rattle.am_office.specs.Entries.{touches}
+use Rattle.am_office_entries.specs.declared.Event.{Event}
+use Rattle.am_office_entries.specs.declared.Entry.{Entry}
+use Rattle.am_office_entries.specs.Entries.{touches}
 use Rattle.am_model.specs.Changes.{replay}
 use Rattle.am_model.specs.Layout.{Layout, EndSetting, AllAre}
 use Rattle.am_model.specs.History.{MayFollow, state_of, is_in_range, failing}
 use Rattle.am_model_drain.specs.Made.{later_stamp, next_entry, next_stamp}
 use Rattle.am_model.specs.Merge.{is_ordered}
 use Rattle.am_model_merge.proofs.Sorted.{Has, before_from}
-use Rattle.am_machine_join.proofs.Standing.{ordered_push}
+use Rattle.am_machine_journal.proofs.Standing.{ordered_push}
 use Rattle.am_scenario_types.specs.declared.parts.FaultLine.{FaultLine}
 use Rattle.am_endpoint.specs.View.{EndpointView}
 use Rattle.am_model_drain.proofs.Entries.{entry_may_follow}
-use Rattle.am_machine_index.specs.View.{IsEarly}
-use Rattle.am_machine_index.proofs.Growing.{greatest_push}
+use Rattle.am_machine_journal.specs.Index.View.{IsEarly}
+use Rattle.am_machine_journal.proofs.Growing.{greatest_push}
 use Rattle.am_model.proofs.Each.{each_push}
 use Rattle.am_machine.specs.declared.settings.Settings.{Settings}
 use Rattle.am_model_parts.specs.Readings.{with_entry}

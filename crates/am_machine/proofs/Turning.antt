@@ -8,12 +8,12 @@ use Rattle.am_names.specs.declared.NodeId.{NodeId}
 use Rattle.am_names.specs.declared.Message.{Message}
 use Rattle.am_names.specs.declared.Packet.{Packet}
 use Rattle.am_names.specs.declared.Packet.TheVariants as Packets
-use Rattle.am_office.specs.declared.Condition.{Condition}
-use Rattle.am_office.specs.declared.Part.{Part}
-use Rattle.am_office.specs.declared.Part.TheVariants as Parts
-use Rattle.am_office.specs.declared.Event.{Event}
-use Rattle.am_office.specs.declared.Entry.{Entry}
-use Rattle.am_office.specs.Entries.{emitted_in, emitted_of}
+use Rattle.am_office_entries.specs.declared.Condition.{Condition}
+use Rattle.am_office_entries.specs.declared.Part.{Part}
+use Rattle.am_office_entries.specs.declared.Part.TheVariants as Parts
+use Rattle.am_office_entries.specs.declared.Event.{Event}
+use Rattle.am_office_entries.specs.declared.Entry.{Entry}
+use Rattle.am_office_entries.specs.Entries.{emitted_in, emitted_of}
 use Rattle.am_model.specs.Channels.{Again, Arrival, Fresh, Stale, bound_message}
 use Rattle.am_model.specs.Endpoint.{State}
 use Rattle.am_model_parts.specs.declared.work.Work.{Work}
@@ -31,7 +31,7 @@ use Rattle.am_iface.specs.View.{InterfaceView, FitsInterface, own}
 use Rattle.am_iface.specs.Refusals.{full_here, full_with, refusal_alone, refusal_with, refused_by}
 use Rattle.am_iface.specs.Turns.{HasRoom, IsFull, entry_by}
 use Rattle.am_iface.specs.With.{HasRoomWith, IsFullOf}
-use Rattle.am_machine_index.specs.View.{AreNodes, HasRoomFor, IndexView, IsIndexOf, Readings, greatest_stamp, is_ready_on}
+use Rattle.am_machine_journal.specs.Index.View.{AreNodes, HasRoomFor, IndexView, IsIndexOf, Readings, greatest_stamp, is_ready_on}
 use Rattle.am_driver_moves.specs.Logs.{EndLog, kept, state_in}
 use Rattle.am_machine.specs.Turned.{IsGrown, IsTurned, TurnsAlone, TurnsWith, entry_of_work, told}
 use Rattle.am_machine.specs.Ways.{GoesTo}

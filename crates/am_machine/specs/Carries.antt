@@ -1,7 +1,7 @@
 -- A carry between two endpoints of a cluster, each found by its place.
 use Rattle.std.specs.Prelude.{◌≡◌, ℕ, zero, suc, ◌<◌, Bool, true, false, List, length, Option, Some, None, slice_get, if◌then◌else◌}
 use Rattle.am_names.specs.declared.EndpointId.{EndpointId}
-use Rattle.am_office.specs.declared.Entry.{Entry}
+use Rattle.am_office_entries.specs.declared.Entry.{Entry}
 use Rattle.am_model.specs.Allowed.{MayArrive, MayCarry}
 use Rattle.am_model.specs.Steps.{lesser}
 use Rattle.am_endpoint.specs.View.{EndpointView, state_after}

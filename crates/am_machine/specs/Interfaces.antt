@@ -3,8 +3,8 @@ use Rattle.std.specs.Prelude.{◌≡◌, ℕ, ◌≤◌, Some, List, length, sli
 use Rattle.std.specs.List.{filter}
 use Rattle.am_names.specs.declared.EndpointId.{EndpointId}
 use Rattle.am_names.specs.declared.NodeId.{NodeId}
-use Rattle.am_office.specs.declared.Entry.{Entry}
-use Rattle.am_office.specs.Entries.{touches_node}
+use Rattle.am_office_entries.specs.declared.Entry.{Entry}
+use Rattle.am_office_entries.specs.Entries.{touches_node}
 use Rattle.am_model.specs.Layout.{Layout, home, node_at}
 use Rattle.am_model_parts.specs.Interface.{home_in}
 use Rattle.am_iface.specs.View.{InterfaceView, own}

@@ -1,15 +1,15 @@
 -- What a cluster keeps: the journal that its logs merge into is a history, each log is its part of it, and the index is its index.
 use Rattle.std.specs.Prelude.{◌≡◌, ℕ, ◌≤◌, true, List, ◌++◌, Some, length, map, slice_get}
 use Rattle.std.specs.List.{filter}
-use Rattle.am_office.specs.declared.Entry.{Entry}
-use Rattle.am_office.specs.Entries.{touches}
+use Rattle.am_office_entries.specs.declared.Entry.{Entry}
+use Rattle.am_office_entries.specs.Entries.{touches}
 use Rattle.am_model.specs.Endpoint.{fresh}
 use Rattle.am_model.specs.History.{IsHistory}
 use Rattle.am_model.specs.Layout.{Layout, AllAre, IsLawful, opening}
 use Rattle.am_model.specs.Merge.{is_ordered}
 use Rattle.am_scenario_types.specs.declared.parts.FaultLine.{FaultLine}
 use Rattle.am_model_scripts.specs.Layout.{is_direct, fault_of}
-use Rattle.am_machine_index.specs.View.{IsEarly, IsIndexOf, Readings}
+use Rattle.am_machine_journal.specs.Index.View.{IsEarly, IsIndexOf, Readings}
 use Rattle.am_model_merge.specs.Merged.{merged}
 use Rattle.am_iface.specs.View.{InterfaceView}
 use Rattle.am_swap_device.specs.Memory.{Store}

@@ -1,8 +1,8 @@
 -- Where the entry of an event is read that was made last.
 use Rattle.std.specs.Prelude.{Option, Some, None}
 use Rattle.am_names.specs.declared.EndpointId.{EndpointId}
-use Rattle.am_office.specs.declared.Event.{Event}
-use Rattle.am_office.specs.declared.Event.TheVariants as Events
+use Rattle.am_office_entries.specs.declared.Event.{Event}
+use Rattle.am_office_entries.specs.declared.Event.TheVariants as Events
 
 -- the endpoint of a call, a want, a carry or a move: its log gets the entry
 abbrev pub end_named : Event → Option EndpointId

@@ -15,3 +15,4 @@ pub mod Ways
 pub mod Parts
 pub mod Parting
 pub mod Lasts
+pub mod Node

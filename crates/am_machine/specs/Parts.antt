@@ -4,23 +4,23 @@ use Rattle.std.specs.List.{filter}
 use Rattle.std.specs.Global.{Vec}
 use Rattle.am_names.specs.declared.NodeId.{NodeId}
 use Rattle.am_names.specs.declared.Packet.{Packet}
-use Rattle.am_office.specs.declared.Entry.{Entry}
+use Rattle.am_office_entries.specs.declared.Entry.{Entry}
 use Rattle.am_model.specs.Channels.{emitted}
 use Rattle.am_model.specs.History.{IsHistory}
 use Rattle.am_model.specs.Layout.{AllAre, Layout, node_at}
 use Rattle.am_endpoint.specs.View.{EndpointView}
 use Rattle.am_scenario_types.specs.Lists.{ScenarioLists}
 use Rattle.am_model_scripts.specs.Layout.{layout_of}
-use Rattle.am_machine_index.specs.View.{receipts}
+use Rattle.am_machine_journal.specs.Index.View.{receipts}
 use Rattle.am_model_scripts.specs.Links.{ReceivesInOrder}
-use Rattle.am_machine_node.specs.declared.NodePart.{NodePart}
-use Rattle.am_machine_node.specs.Parts.{journal_of}
+use Rattle.am_machine.specs.declared.node.NodePart.{NodePart}
+use Rattle.am_machine.specs.Node.Parts.{journal_of}
 use Rattle.am_driver_moves.specs.Logs.{kept}
 use Rattle.am_machine.specs.Ends.{setting_in}
 use Rattle.am_machine.specs.Interfaces.{IsInterface}
 use Rattle.am_machine.specs.Kept.{IsOwn}
 use Rattle.am_machine.specs.Swaps.{IsSwap}
-use Rattle.am_machine_node.specs.Gathered.{is_declared_at}
+use Rattle.am_machine.specs.Node.Gathered.{is_declared_at}
 
 -- the part of a node in a journal: its endpoints as they are declared, in order, each with its part of the journal
 pub record IsNodePart (layout : Layout) (journal : List Entry) (node : NodeId) (p : NodePart) : Type 0 where

@@ -3,7 +3,7 @@ use Rattle.std.specs.Prelude.{◌≡◌, ℕ, Bool, true, false, ◌&&◌, Some,
 use Rattle.std.specs.List.{filter}
 use Rattle.am_names.specs.declared.NodeId.{NodeId}
 use Rattle.am_names.specs.Names.{same_node}
-use Rattle.am_office.specs.declared.Place.TheVariants.{Disk}
+use Rattle.am_office_entries.specs.declared.Place.TheVariants.{Disk}
 use Rattle.am_model.specs.Endpoint.{Body, fresh}
 use Rattle.am_model.specs.Layout.{node_at}
 use Rattle.am_swap_device.specs.Memory.{Store, with_held}

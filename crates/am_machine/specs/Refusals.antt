@@ -1,6 +1,6 @@
 -- What an event is refused for.
 use Rattle.std.specs.Prelude.{Option, option_map}
-use Rattle.am_office.specs.declared.Event.{Event}
+use Rattle.am_office_entries.specs.declared.Event.{Event}
 use Rattle.am_model.specs.Steps.{Stop, NotEnabled, LogFull, stop}
 use Rattle.am_model.specs.declared.EntryFault.{EntryFault}
 use Rattle.am_model.specs.declared.EntryFault.TheVariants as Faults

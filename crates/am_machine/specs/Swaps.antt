@@ -1,7 +1,7 @@
 -- The swaps of a cluster: each is the disk of a node, and holds the images of the node's endpoints that are on disk.
 use Rattle.std.specs.Prelude.{◌≡◌, ℕ, true, Some, List, length, slice_get, if◌then◌else◌}
 use Rattle.am_names.specs.declared.NodeId.{NodeId}
-use Rattle.am_office.specs.declared.Entry.{Entry}
+use Rattle.am_office_entries.specs.declared.Entry.{Entry}
 use Rattle.am_model.specs.Endpoint.{is_on_disk}
 use Rattle.am_model.specs.History.{state_of, page_calls}
 use Rattle.am_model.specs.Layout.{EndSetting, Layout, node_at}

@@ -1,7 +1,7 @@
 -- What a work of an interface makes of its parts: the interface, and the endpoint that it touches.
 use Rattle.std.specs.Prelude.{◌≡◌, ◌≢◌, ◌+◌, ◌-◌, ◌^◌, ◌<◌, ◌≤◌, false, Some, None, Result, Ok, Err, List, [], ◌∷◌, ◌++◌, length, slice_get}
 use Rattle.am_names.specs.declared.NodeId.{NodeId}
-use Rattle.am_office.specs.declared.Entry.{Entry}
+use Rattle.am_office_entries.specs.declared.Entry.{Entry}
 use Rattle.am_model.specs.Channels.{emitted}
 use Rattle.am_model.specs.Endpoint.{State, is_direct}
 use Rattle.am_model.specs.declared.EntryFault.{EntryFault}
@@ -12,7 +12,7 @@ use Rattle.am_model_parts.specs.Granted.{FitsEndpoint}
 use Rattle.am_model_parts.specs.Interface.{event_of, failing_at, home_in, needs, outcome_at, stamp_in}
 use Rattle.am_model.specs.Packets.{from_of, number_of}
 use Rattle.am_model_drain.specs.Made.{next_stamp}
-use Rattle.am_machine_index.specs.View.{CanCount, Readings}
+use Rattle.am_machine_journal.specs.Index.View.{CanCount, Readings}
 use Rattle.am_endpoint.specs.View.{EndpointView, state_after}
 use Rattle.am_iface.specs.View.{FitsInterface, InterfaceView, own}
 use Rattle.am_model.specs.Parts.{last_stamp}

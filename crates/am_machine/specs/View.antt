@@ -1,7 +1,7 @@
 -- A cluster, as its callers see it: what it began with, and its journal.
 use Rattle.std.specs.Prelude.{◌≡◌, List, [], ◌∷◌, ◌++◌, Some, None, Result, Ok, Err}
-use Rattle.am_office.specs.declared.Event.{Event}
-use Rattle.am_office.specs.declared.Entry.{Entry}
+use Rattle.am_office_entries.specs.declared.Event.{Event}
+use Rattle.am_office_entries.specs.declared.Entry.{Entry}
 use Rattle.am_model.specs.Layout.{Layout}
 use Rattle.am_model.specs.Steps.{NotEnabled, LogFull, stop}
 use Rattle.am_model_drain.specs.Made.{next_entry}

@@ -2,14 +2,14 @@
 ghost use Rattle.am_machine.specs.Refusals.{refusal};
 ghost use Rattle.am_machine.specs.View.{Makes};
 ghost use Rattle.am_model.specs.History.{is_in_range};
-ghost use Rattle.am_office.specs.declared.Event.TheVariants as Events;
+ghost use Rattle.am_office_entries.specs.declared.Event.TheVariants as Events;
 ghost use Rattle.std.specs.Prelude.{◌≡◌, true};
 
 use crate::Cluster;
 use crate::ends::{is_full, is_on_disk, place_of};
 use am_model::EntryFault;
 use am_names::EndpointId;
-use am_office::{Actor, Call, Condition, Part};
+use am_office_entries::{Actor, Call, Condition, Part};
 
 impl Cluster {
     /// What a call of an application is refused for, want of memory aside.

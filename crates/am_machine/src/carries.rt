@@ -2,14 +2,14 @@
 ghost use Rattle.am_machine.specs.Refusals.{refusal};
 ghost use Rattle.am_machine.specs.View.{Makes};
 ghost use Rattle.am_model.specs.History.{is_in_range};
-ghost use Rattle.am_office.specs.declared.Event.TheVariants as Events;
+ghost use Rattle.am_office_entries.specs.declared.Event.TheVariants as Events;
 ghost use Rattle.std.specs.Prelude.{◌≡◌, true};
 
 use crate::Cluster;
 use crate::ends::{carry_between, is_full, least_full, place_of, room_for_both};
 use am_model::{EntryFault, judged};
 use am_names::EndpointId;
-use am_office::{Condition, Entry, Event, Part};
+use am_office_entries::{Condition, Entry, Event, Part};
 use am_scenario_types::Network;
 
 impl Cluster {

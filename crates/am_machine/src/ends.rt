@@ -9,7 +9,7 @@ ghost use Rattle.std.specs.Prelude.{◌≡◌, ◌<◌, ℕ, length, map, nat_le
 
 use am_endpoint::{EndFault, Endpoint};
 use am_names::EndpointId;
-use am_office::Entry;
+use am_office_entries::Entry;
 
 /// Whether the endpoint with this number stands at the place.
 fn is_at(ends: &[Endpoint], place: usize, id: EndpointId) -> bool

@@ -9,7 +9,7 @@ ghost use Rattle.std.specs.List.{list_any};
 use am_endpoint::Endpoint;
 use am_model::{is_in_frame, is_resident};
 use am_names::NodeId;
-use am_office::{Condition, Event, Place};
+use am_office_entries::{Condition, Event, Place};
 
 /// Whether an endpoint of the node lies in the frame.
 fn is_frame_held(ends: &[Endpoint], node: NodeId, frame: u8) -> bool

@@ -7,7 +7,7 @@ ghost use Rattle.std.specs.Prelude.{◌≡◌, ◌<◌, [], ◌∷◌, ◌++◌,
 use crate::settings::Settings;
 use am_iface::{IfaceSettings, Interface};
 use am_names::NodeId;
-use am_office::NoMemory;
+use am_office_entries::NoMemory;
 use am_scenario_types::{EndLine, Network};
 use std::alloc::Global;
 

@@ -1,13 +1,13 @@
 // The entry that was made last, read in a log that it went to.
 ghost use Rattle.am_machine.specs.Lasts.{end_named};
-ghost use Rattle.am_office.specs.Entries.{node_touched};
-ghost use Rattle.am_office.specs.declared.Entry.{Entry};
+ghost use Rattle.am_office_entries.specs.Entries.{node_touched};
+ghost use Rattle.am_office_entries.specs.declared.Entry.{Entry};
 ghost use Rattle.std.specs.Option.{option_copied};
 ghost use Rattle.std.specs.Prelude.{◌≡◌, [], ◌∷◌, ◌++◌, List, Some};
 
 use crate::Cluster;
 use am_names::{EndpointId, NodeId};
-use am_office::{Entry, Event};
+use am_office_entries::{Entry, Event};
 
 /// The endpoint in whose log the entry of an event is read.
 fn end_named(event: &Event) -> Option<EndpointId>

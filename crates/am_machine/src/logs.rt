@@ -1,13 +1,13 @@
 // The logs of the endpoints and interfaces of a cluster.
-ghost use Rattle.am_machine_join.specs.Joined.{lists_of};
+ghost use Rattle.am_machine_journal.specs.Merge.Joined.{lists_of};
 ghost use Rattle.am_driver_moves.specs.Logs.{kept};
 ghost use Rattle.am_machine.specs.Kept.{interface_logs, logs_in};
-ghost use Rattle.am_machine_node.specs.Parts.{log_of};
+ghost use Rattle.am_machine.specs.Node.Parts.{log_of};
 ghost use Rattle.std.specs.Prelude.{◌≡◌, ◌++◌, IfOk, OnOk, map};
 
 use am_endpoint::Endpoint;
 use am_iface::Interface;
-use am_office::{Entry, NoMemory};
+use am_office_entries::{Entry, NoMemory};
 use std::alloc::Global;
 
 /// Adds the logs of these endpoints.

@@ -12,7 +12,7 @@ use crate::frames::{failing_on, is_taken};
 use am_driver_moves::make_move;
 use am_model::EntryFault;
 use am_names::{EndpointId, NodeId};
-use am_office::{Condition, Event, Part};
+use am_office_entries::{Condition, Event, Part};
 use am_scenario_types::Network;
 
 impl Cluster {

@@ -7,7 +7,7 @@ ghost use Rattle.std.specs.Prelude.{◌≡◌, IfOk, map};
 
 use crate::settings::Settings;
 use am_endpoint::{EndSettings, Endpoint};
-use am_office::{NoMemory, Place};
+use am_office_entries::{NoMemory, Place};
 use am_scenario_types::{EndLine, Network};
 use std::alloc::Global;
 

@@ -1,29 +1,29 @@
 // A cluster of the packet network taken apart into its nodes, and put together again.
 ghost use Rattle.am_model_scripts.specs.Layout.{layout_of};
-ghost use Rattle.am_machine_join.specs.Joined.{AreOne};
-ghost use Rattle.am_machine_index.specs.View.{IsIndexOf};
+ghost use Rattle.am_machine_journal.specs.Merge.Joined.{AreOne};
+ghost use Rattle.am_machine_journal.specs.Index.View.{IsIndexOf};
 ghost use Rattle.am_machine.specs.Parting.{settings_from};
 ghost use Rattle.am_machine.specs.Parts.{AreNodeParts, CanUnite};
 ghost use Rattle.am_model_merge.specs.Logs.{IsRising};
 ghost use Rattle.am_model_merge.specs.Merged.{entries_of};
 ghost use Rattle.am_model.specs.Layout.{AllAre};
-ghost use Rattle.am_machine_node.specs.Packets.{GoesWithin};
-ghost use Rattle.am_machine_node.specs.Parts.{all_logs, journal_of};
-ghost use Rattle.am_machine_node.specs.Taken.{HasRoomFor, IsEmpty};
+ghost use Rattle.am_machine.specs.Node.Packets.{GoesWithin};
+ghost use Rattle.am_machine.specs.Node.Parts.{all_logs, journal_of};
+ghost use Rattle.am_machine.specs.Node.Taken.{HasRoomFor, IsEmpty};
 ghost use Rattle.am_scenario_types.specs.Lawful.{IsLawful};
 ghost use Rattle.am_scenario_types.specs.declared.parts.Network.TheVariants as Networks;
 ghost use Rattle.std.specs.Prelude.{◌≡◌, ◌≤◌, [], false, length, vec_capacity, IfErr, IfOk};
 
 use crate::Cluster;
-use crate::parts::short_logs;
-use crate::settings::Settings;
-use am_endpoint::Endpoint;
-use am_machine_index::JournalIndex;
-use am_machine_node::{
+use crate::node::{
     NodePart, Taken, assemble, deal, gather, index_of, journal_of, open_shells, room_for,
     take_apart,
 };
-use am_office::NoMemory;
+use crate::parts::short_logs;
+use crate::settings::Settings;
+use am_endpoint::Endpoint;
+use am_machine_journal::index::JournalIndex;
+use am_office_entries::NoMemory;
 use am_scenario_types::{FaultLine, Scenario};
 use std::alloc::Global;
 

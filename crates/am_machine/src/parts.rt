@@ -1,6 +1,6 @@
 // The parts of a cluster, as its callers may look at them.
 ghost use Rattle.am_endpoint.specs.View.{state_after};
-ghost use Rattle.am_machine_index.specs.View.{receipts};
+ghost use Rattle.am_machine_journal.specs.Index.View.{receipts};
 ghost use Rattle.am_driver_moves.specs.Logs.{kept};
 ghost use Rattle.am_machine.specs.Ends.{setting_in, settings_by};
 ghost use Rattle.am_machine.specs.Interfaces.{IsInterface};
@@ -11,7 +11,7 @@ ghost use Rattle.am_model.specs.Merge.{is_ordered};
 ghost use Rattle.am_model.specs.PostOffice.{PostOffice};
 ghost use Rattle.am_names.specs.declared.EndpointId.{EndpointId};
 ghost use Rattle.am_names.specs.declared.NodeId.{NodeId};
-ghost use Rattle.am_office.specs.Entries.{touches, touches_node};
+ghost use Rattle.am_office_entries.specs.Entries.{touches, touches_node};
 ghost use Rattle.std.specs.List.{filter, find};
 ghost use Rattle.std.specs.Option.{option_map};
 ghost use Rattle.std.specs.Prelude.{◌≡◌, ◌↔◌, ◌<◌, ◌≤◌, All, IfSome, None, Some, false, is_some, length, slice_get, true};

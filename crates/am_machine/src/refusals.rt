@@ -4,7 +4,7 @@ ghost use Rattle.am_model.specs.History.{is_in_range};
 ghost use Rattle.std.specs.Prelude.{◌≡◌, true};
 
 use crate::{ApplyFault, Cluster};
-use am_office::Event;
+use am_office_entries::Event;
 
 impl Cluster {
     /// What an event is refused for, want of memory aside: the first of its conditions that isn't met, or the first full log

@@ -9,7 +9,7 @@ use crate::opening::settings_of;
 use crate::settings::Settings;
 use am_endpoint::Body;
 use am_names::NodeId;
-use am_office::NoMemory;
+use am_office_entries::NoMemory;
 use am_scenario_types::{EndLine, FaultLine};
 use am_swap::{MemorySwap, encode};
 use std::alloc::Global;

@@ -1,18 +1,18 @@
 // A work of an interface, on its parts: the interface, the endpoint that it touches, and the index.
 ghost use Rattle.am_endpoint.specs.View.{state_after};
 ghost use Rattle.am_iface.specs.View.{own};
-ghost use Rattle.am_machine_index.specs.View.{IsIndexOf};
+ghost use Rattle.am_machine_journal.specs.Index.View.{IsIndexOf};
 ghost use Rattle.am_model_parts.specs.Interface.{needs};
 ghost use Rattle.am_driver_moves.specs.Logs.{kept};
 ghost use Rattle.am_machine.specs.Turned.{CanTurn, CanTurnWith, TurnsAlone, TurnsWith, entries_after, entry_of_work, told};
 ghost use Rattle.am_machine.specs.Ways.{GoesTo};
 ghost use Rattle.am_model.specs.Endpoint.{State};
-ghost use Rattle.am_office.specs.declared.Entry.{Entry};
+ghost use Rattle.am_office_entries.specs.declared.Entry.{Entry};
 ghost use Rattle.std.specs.Prelude.{◌≡◌, ◌<◌, None, IfSome, List};
 
 use am_endpoint::Endpoint;
 use am_iface::{Interface, Work, emitted_of};
-use am_machine_index::JournalIndex;
+use am_machine_journal::index::JournalIndex;
 use am_model::EntryFault;
 use am_names::NodeId;
 

@@ -5,7 +5,7 @@ ghost use Rattle.am_machine.specs.Turned.{IsTaken};
 ghost use Rattle.am_machine.specs.View.{Makes};
 ghost use Rattle.am_model.specs.Channels.{emitted};
 ghost use Rattle.am_model.specs.History.{is_in_range};
-ghost use Rattle.am_office.specs.declared.Event.TheVariants as Events;
+ghost use Rattle.am_office_entries.specs.declared.Event.TheVariants as Events;
 ghost use Rattle.std.specs.Prelude.{◌≡◌, ◌-◌, ◌<◌, ◌≤◌, false, slice_get, true};
 
 use crate::Cluster;
@@ -15,7 +15,7 @@ use crate::ways::way;
 use am_iface::Work;
 use am_model::EntryFault;
 use am_names::{EndpointId, NodeId, Packet};
-use am_office::Condition;
+use am_office_entries::Condition;
 use am_scenario_types::Network;
 
 impl Cluster {

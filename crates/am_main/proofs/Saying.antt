@@ -1,7 +1,7 @@
 -- What an answer says, in other words.
 use Rattle.std.specs.Prelude.{true, codes, Result, Ok, Err}
 use Rattle.std.proofs.Common.{◌≡◌, ◌≢◌, ◌⊎◌, inl, inr, ℕ, ◌<◌, ◌≤◌, List, [], ◌∷◌, length, Option, Some, None, refl, sym, ap, ◌∙◌, subst, arith}
-use Rattle.am_check_laws.specs.Laws.{IsTrueReport}
+use Rattle.am_check.specs.Laws.Laws.{IsTrueReport}
 use Rattle.am_io.specs.Causes.{Rose, Counter}
 use Rattle.am_main.specs.Answers.{AnswersTo, Finds, IsAnswered, IsDue, IsDueToText, IsOfCommand, IsOneOf, IsTaken}
 use Rattle.am_main_lines.specs.Offers.{IsOffered, IsWhole, no_memory, read_fault, too_long}

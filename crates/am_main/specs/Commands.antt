@@ -1,6 +1,7 @@
 -- What the words after the program's name ask for. Their numbers are spelled as numbers are printed: one or more digits without a leading
 -- zero, with a value below 2 ^ 64.
-use Rattle.std.specs.Prelude.{◌≡◌, ℕ, ◌<◌, ◌≤◌, ◌&&◌, nat_le, Bool, true, false, List, [], ◌∷◌, codes, if◌then◌else◌, Option, Some, None}
+use Rattle.std.specs.Prelude.{◌≡◌, ℕ, ◌<◌, ◌≤◌, ◌&&◌, nat_le, Bool, true, false, List, [], ◌∷◌, codes, if◌then◌else◌, map, Option, Some, None, String, string_bytes}
+use Rattle.std.specs.Global.{Global}
 use Rattle.std.specs.Str.{bytes_eq}
 use Rattle.std.specs.Option.{option_and_then, option_map}
 use Rattle.am_check_lines.specs.Reading.{printed_number}
@@ -42,6 +43,10 @@ command_of (word ∷ []) = of_one_word word
 command_of (word ∷ other ∷ []) = of_two_words word other
 command_of (word ∷ nodes ∷ turns ∷ []) = of_three_words word nodes turns
 command_of words = None
+
+-- the same of the words as the program gets them
+abbrev pub asked_by : List (String Global) → Option Command
+asked_by words = command_of (map string_bytes words)
 
 -- the numbers of a command are ones that it takes
 abbrev pub IsInRange : Command → Type 0

@@ -1,6 +1,6 @@
 -- What an answer says, in other words.
 use Rattle.std.specs.Prelude.{◌≡◌, ◌≢◌, ◌⊎◌, ℕ, ◌≤◌, true, List, [], codes, length, Option, Some, Result, Ok}
-use Rattle.am_check_laws.specs.Laws.{IsTrueReport}
+use Rattle.am_check.specs.Laws.Laws.{IsTrueReport}
 use Rattle.am_io.specs.Causes.{Rose, Counter}
 use Rattle.am_main.specs.Answers.{AnswersTo, Finds, IsAnswered, IsOfCommand, IsOneOf, IsTaken, statuses}
 use Rattle.am_main_lines.specs.Offers.{IsWhole}
@@ -21,6 +21,12 @@ use Rattle.am_segment.specs.Spelling.{segment_grammar}
 use Rattle.am_session.specs.Grammar as Sessions
 use Rattle.am_session.specs.Meaning.{PrintsSession}
 use Rattle.am_session.specs.Scripts.{Script}
+
+-- This holds wherever an answer that is due was offered: of what was asked for, what the source had left, its counts before and now, the
+-- status, and what the sink held before and now.
+abbrev pub OfEachAnswered : (Option Command → Option (List ℕ) → Counter → Counter → ℕ → Option (List ℕ) → Option (List ℕ) → Type 0) → Type 0
+OfEachAnswered P =
+    (asked : Option Command) (left : Option (List ℕ)) (before now : Counter) (status : ℕ) (old new : Option (List ℕ)) → IsAnswered asked left before now status old new → P asked left before now status old new
 
 -- an answer of the command to the bytes was taken whole
 pub record Takes (command : Command) (bytes : List ℕ) (status : ℕ) (old new : Option (List ℕ)) : Type 0 where

@@ -1,7 +1,7 @@
 //! The forms of the words after the program's name.
 
-ghost use Rattle.std.specs.Prelude.{◌≡◌, IfSome, Some, map, string_bytes};
-ghost use Rattle.am_main.specs.Commands.{IsInRange, command_of, count_of, form_of, of_one_word, of_three_words, of_two_words, reads_text};
+ghost use Rattle.std.specs.Prelude.{◌≡◌, IfSome, Some};
+ghost use Rattle.am_main.specs.Commands.{IsInRange, asked_by, count_of, form_of, of_one_word, of_three_words, of_two_words, reads_text};
 
 use am_check_lines::printed_number;
 use am_scenario::Form;
@@ -124,7 +124,7 @@ fn of_three_words(word: &str, nodes: &str, turns: &str) -> Option<Command>
 /// N is 0 to 2^64-1, W 1 to 8 and U 0 to 10,000, each in decimal digits without a sign or a leading zero.
 #[tactic(auto, unfolding(crate::specs::Commands::command_of))]
 pub fn command_of(words: &[String]) -> Option<Command>
-    ensures exact { result ≡ command_of (map string_bytes words.now) }
+    ensures exact { result ≡ asked_by words.now }
     ensures in_range { IfSome result IsInRange }
 {
     match words {

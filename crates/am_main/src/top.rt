@@ -1,12 +1,11 @@
 //! The top call.
 
-ghost use Rattle.std.specs.Prelude.{codes, ◌≡◌, ◌≢◌, None, map, string_bytes, true, false};
-ghost use Rattle.std.specs.Io.KnownBytes.{Appends};
+ghost use Rattle.std.specs.Prelude.{◌≡◌, ◌≢◌, true, false};
 ghost use Rattle.am_io.specs.Causes.{Rose, Stands};
-ghost use Rattle.am_io.specs.Whole.{IsLonger, TakesAtMost};
-ghost use Rattle.am_main.specs.Answers.{IsAnswered, IsOfCommand, IsOneOf, IsTaken, LacksMemory, statuses, usage};
+ghost use Rattle.am_io.specs.Whole.{TakesAtMost};
+ghost use Rattle.am_main.specs.Answers.{IsAnswered, IsOfCommand, LacksMemory};
+ghost use Rattle.am_main.specs.Commands.{asked_by, reads_text};
 ghost use Rattle.am_main_lines.specs.Offers.{IsOffered, no_memory};
-ghost use Rattle.am_main.specs.Commands.{command_of, reads_text};
 
 use crate::commands::command_of;
 use crate::offers::{Status, offer};
@@ -39,8 +38,9 @@ use std::thread::Threads;
 /// | 10 | the first line of a report that has a fault | `check` found it |
 /// | 11 | `text too long` | `count` takes no more than 1,048,576 bytes |
 ///
-/// It ends at the first read that fails and at the first write that is refused.
-#[tactic(auto, using(crate::proofs::Statuses::taken_of, crate::proofs::Statuses::usage_of, crate::proofs::Statuses::read_fault_of, crate::proofs::Statuses::too_long_of, crate::proofs::Statuses::lacks_of, crate::proofs::Statuses::ends_of, crate::proofs::Statuses::not_five, crate::proofs::Statuses::ended_of))]
+/// It ends at the first read that fails and at the first write that is refused. What `answered` says of each status, as that the text of
+/// a report was taken whole, the law `answers_say` draws from it.
+#[tactic(auto, using(crate::proofs::Statuses::lacks_of, crate::proofs::Statuses::not_five, crate::proofs::Statuses::ended_of))]
 pub fn am2<R: Threads + Sync, S: Source, K: Sink>(
     rt: &R,
     alloc: Global,
@@ -50,22 +50,16 @@ pub fn am2<R: Threads + Sync, S: Source, K: Sink>(
 ) -> Status
     requires { S.has_ended source.old ≡ false }
     // An answer that is due to what the words ask for, and to what the source had left, was offered to the sink.
-    ensures answered { IsAnswered (command_of (map string_bytes words.now)) (S.left source.old) (S.count source.old) (S.count source.new) result.number (K.held sink.old) (K.held sink.new) }
-    // The sink took it whole, unless a write failed or memory ran out.
-    ensures taken { result.number ≢ 5 → result.number ≢ 8 → IsTaken (command_of (map string_bytes words.now)) (S.left source.old) (S.count source.old) (S.count source.new) result.number (K.held sink.old) (K.held sink.new) }
-    // Which statuses there are, and the cause of each that is none of a command's own answers.
-    ensures ends { IsOneOf (statuses (command_of (map string_bytes words.now))) result.number }
-    ensures usage { result.number ≡ 2 → (command_of (map string_bytes words.now) ≡ None) × Appends (K.held sink.old) (K.held sink.new) usage.text }
-    ensures read_fault { result.number ≡ 4 → Rose (S.count source.old) (S.count source.new) × Appends (K.held sink.old) (K.held sink.new) (codes "read fault\n") }
+    ensures answered { IsAnswered (asked_by words.now) (S.left source.old) (S.count source.old) (S.count source.new) result.number (K.held sink.old) (K.held sink.new) }
+    // A write failed where the status is 5, and nowhere else.
     ensures write_fault { result.number ≡ 5 → Rose (K.count sink.old) (K.count sink.new) }
-    ensures too_long { result.number ≡ 7 → IsLonger (S.left source.old) 16777216 × Appends (K.held sink.old) (K.held sink.new) (codes "input too long\n") }
-    ensures no_memory { result.number ≡ 8 → LacksMemory (K.held sink.old) (K.held sink.new) (K.shortages sink.old) (K.shortages sink.new) }
-    // No write that failed, or that found no memory, is passed over.
     ensures no_write_fault { result.number ≢ 5 → Stands (K.count sink.old) (K.count sink.new) }
+    // There was no memory where the status is 8: the line that says so was appended, or the sink met a shortage. Nowhere else did it meet one.
+    ensures no_memory { result.number ≡ 8 → LacksMemory (K.held sink.old) (K.held sink.new) (K.shortages sink.old) (K.shortages sink.new) }
     ensures no_shortage { result.number ≢ 8 → Stands (K.shortages sink.old) (K.shortages sink.new) }
     // A text is read to its end where it is answered; words of no form and `make` leave the source as it was.
-    ensures ended { reads_text (command_of (map string_bytes words.now)) ≡ true → IsOfCommand result.number → S.has_ended source.new ≡ true }
-    ensures unread { reads_text (command_of (map string_bytes words.now)) ≡ false → source.new ≡ source.old }
+    ensures ended { reads_text (asked_by words.now) ≡ true → IsOfCommand result.number → S.has_ended source.new ≡ true }
+    ensures unread { reads_text (asked_by words.now) ≡ false → source.new ≡ source.old }
     ensures took { TakesAtMost 16777217 (S.left source.old) (S.left source.new) }
 {
     let reply = reply_to(rt, alloc, command_of(words), source);

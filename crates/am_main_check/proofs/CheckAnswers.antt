@@ -6,11 +6,11 @@ use Rattle.am_check.specs.declared.faults.CheckStop.TheVariants as Stops
 use Rattle.am_check.specs.declared.faults.CheckWhat.{CheckWhat}
 use Rattle.am_check.specs.Exact.{IsExact, IsOnly}
 use Rattle.am_check.specs.Verdict.{Checks}
-use Rattle.am_check_laws.specs.Laws.{IsTrueReport, YesIsTrue}
+use Rattle.am_check.specs.Laws.Laws.{IsTrueReport, YesIsTrue}
 use Rattle.am_main_check.specs.Checks.{CheckAnswers, IsTold, IsVerdict, check_line, yes}
 use Rattle.am_main_lines.specs.declared.outputs.Output.{Output}
 use Rattle.am_main_lines.specs.Lines.{Answer, answer_in, full_line, refusal}
-use Rattle.am_office.specs.declared.Part.{Part}
+use Rattle.am_office_entries.specs.declared.Part.{Part}
 use Rattle.am_scenario_types.specs.declared.faults.ScenarioFault.{ScenarioFault}
 use Rattle.am_scenario_types.specs.declared.parts.Form.{Form}
 

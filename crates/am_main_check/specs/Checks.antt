@@ -7,10 +7,10 @@ use Rattle.am_check.specs.declared.faults.CheckWhat.{CheckWhat}
 use Rattle.am_check.specs.declared.faults.CheckWhat.TheVariants as Whats
 use Rattle.am_check.specs.Exact.{IsOnly}
 use Rattle.am_check.specs.Verdict.{Checks}
-use Rattle.am_check_laws.specs.Laws.{IsTrueReport}
+use Rattle.am_check.specs.Laws.Laws.{IsTrueReport}
 use Rattle.am_main_lines.specs.Lines.{Answer, full_line, refusal}
 use Rattle.am_main_lines.specs.Words.{condition_word}
-use Rattle.am_office.specs.declared.Condition.{Condition}
+use Rattle.am_office_entries.specs.declared.Condition.{Condition}
 use Rattle.am_scenario_types.specs.declared.parts.Form.{Form}
 use Rattle.am_office_text.specs.Words.{line}
 

@@ -4,10 +4,10 @@ ghost use Rattle.std.specs.Prelude.{◌≡◌, IfOk};
 ghost use Rattle.am_main_check.specs.Checks.{CheckAnswers, IsVerdict, check_line, disabled_line, told_line, yes};
 ghost use Rattle.am_main_lines.specs.Lines.{answer_in};
 
+use am_check::laws::yes_is_true;
 use am_check::{CheckStop, CheckWhat, check};
-use am_check_laws::yes_is_true;
 use am_main_lines::{Output, condition_word, fault_output, full_output};
-use am_office::Condition;
+use am_office_entries::Condition;
 use am_office_text::Piece::Text;
 use am_office_text::{count, put_line};
 use am_scenario::Form;

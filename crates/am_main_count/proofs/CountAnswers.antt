@@ -1,15 +1,15 @@
 -- What the command `count` prints stands for the answer to the text.
 use Rattle.std.proofs.Common.{◌≡◌, inl, inr, ℕ, ◌<◌, ◌≤◌, List, ◌++◌, length, refl, ap}
-use Rattle.am_office.specs.declared.Entry.{Entry}
-use Rattle.am_office.specs.declared.Part.{Part}
+use Rattle.am_office_entries.specs.declared.Entry.{Entry}
+use Rattle.am_office_entries.specs.declared.Part.{Part}
 use Rattle.am_office_report.specs.Report.{report}
 use Rattle.am_scenario_types.specs.Lists.{ScenarioLists}
-use Rattle.am_job_words.specs.Codes.{sent_words}
+use Rattle.am_job.specs.Words.Codes.{sent_words}
 use Rattle.am_cluster.specs.Runs.{IsRunCutOff}
-use Rattle.am_job_count.specs.Counting.{PrintsCount}
-use Rattle.am_job_count.specs.Stops.{IsCountStop}
-use Rattle.am_job_count.specs.declared.counting.CountStop.TheVariants as Stop
-use Rattle.am_job_cluster.specs.Rounds.{IsRoundRun}
+use Rattle.am_job.specs.Count.Counting.{PrintsCount}
+use Rattle.am_job.specs.Count.Stops.{IsCountStop}
+use Rattle.am_job.specs.declared.count.counting.CountStop.TheVariants as Stop
+use Rattle.am_main_count.specs.Cluster.Rounds.{IsRoundRun}
 use Rattle.am_main_lines.specs.Lines.{Answer, full_line, ids_of}
 use Rattle.am_main_count.specs.Counts.{CountAnswers, IsCountAnswer}
 use Rattle.am_main_lines.specs.Offers.{text_too_long}

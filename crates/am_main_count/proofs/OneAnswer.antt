@@ -4,23 +4,23 @@ use Rattle.std.specs.Prelude.{◌⊎◌}
 use Rattle.std.specs.Cmp.Lexicographic.{slice_cmp, nat_list_cmp_total}
 use Rattle.std.specs.List.{All, AllZip, range_with_len}
 use Rattle.std.specs.Ordering.{nat_cmp}
-use Rattle.am_office.specs.declared.Entry.{Entry}
-use Rattle.am_office.specs.declared.Part.{Part}
+use Rattle.am_office_entries.specs.declared.Entry.{Entry}
+use Rattle.am_office_entries.specs.declared.Part.{Part}
 use Rattle.am_scenario_types.specs.Lists.{ScenarioLists}
 use Rattle.am_model_drain.specs.Cut.{IsDrainedWithRoom}
 use Rattle.am_model_drain.proofs.CutOff.{cut_is_determined}
 use Rattle.am_model_drain.proofs.Determined.{drain_is_determined}
 use Rattle.am_cluster.specs.Runs.{IsRunCutOff}
-use Rattle.am_job_words.specs.declared.codes.CodedWord.{CodedWord}
-use Rattle.am_job_words.specs.Codes.{sent_words}
-use Rattle.am_job_words.specs.Counts.{times}
-use Rattle.am_job_words.specs.Lists.{WordCountLists}
-use Rattle.am_job_words.specs.Texts.{is_short, long_count, words_of}
+use Rattle.am_job.specs.declared.words.codes.CodedWord.{CodedWord}
+use Rattle.am_job.specs.Words.Codes.{sent_words}
+use Rattle.am_job.specs.Words.Counts.{times}
+use Rattle.am_job.specs.Words.Lists.{WordCountLists}
+use Rattle.am_job.specs.Words.Texts.{is_short, long_count, words_of}
 use Rattle.am_job.specs.Asked.{run_in_all}
 use Rattle.am_job.specs.Rounds.{round_at, round_count, scenario}
-use Rattle.am_job_count.specs.Counting.{CountsText, IsRound, plain}
-use Rattle.am_job_count.specs.Printed.{count_text}
-use Rattle.am_job_cluster.specs.Rounds.{IsRoundRun}
+use Rattle.am_job.specs.Count.Counting.{CountsText, IsRound, plain}
+use Rattle.am_job.specs.Count.Printed.{count_text}
+use Rattle.am_main_count.specs.Cluster.Rounds.{IsRoundRun}
 use Rattle.am_main_lines.specs.Lines.{Answer}
 use Rattle.am_main_run.specs.Runs.{PrintsCutRun}
 use Rattle.am_main_run.proofs.OneAnswer.{cut_alone, one_cut_report, same_answer}

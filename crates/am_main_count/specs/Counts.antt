@@ -1,11 +1,11 @@
 -- What the command `count` answers, and what its answers say of the cluster.
 use Rattle.std.specs.Prelude.{◌≡◌, ◌⊎◌, ℕ, ◌<◌, ◌≤◌, List, length}
-use Rattle.am_office.specs.declared.Part.{Part}
+use Rattle.am_office_entries.specs.declared.Part.{Part}
 use Rattle.am_scenario_types.specs.Lists.{ScenarioLists}
-use Rattle.am_job_words.specs.Codes.{sent_words}
-use Rattle.am_job_count.specs.Counting.{PrintsCount}
-use Rattle.am_job_count.specs.Stops.{IsNextRound}
-use Rattle.am_job_cluster.specs.Rounds.{IsRoundRun}
+use Rattle.am_job.specs.Words.Codes.{sent_words}
+use Rattle.am_job.specs.Count.Counting.{PrintsCount}
+use Rattle.am_job.specs.Count.Stops.{IsNextRound}
+use Rattle.am_main_count.specs.Cluster.Rounds.{IsRoundRun}
 use Rattle.am_main_lines.specs.Lines.{Answer}
 use Rattle.am_main_lines.specs.Offers.{text_too_long}
 use Rattle.am_main_run.specs.Runs.{PrintsCutRun}

@@ -5,10 +5,10 @@ ghost use Rattle.am_main_count.specs.Counts.{CountAnswers, IsCountAnswer};
 ghost use Rattle.am_main_lines.specs.Lines.{answer_in, full_line, ids_of};
 ghost use Rattle.am_office_report.specs.Report.{report};
 
-use am_job_cluster::{CountStop, count_over_cluster};
+use crate::cluster::{CountStop, count_over_cluster};
 use am_main_lines::{Output, cut_text};
-use am_office::{Journal, Part};
-use am_office_journal::LoggedJournal;
+use am_office_entries::logged::LoggedJournal;
+use am_office_entries::{Journal, Part};
 use am_scenario_types::Scenario;
 use std::alloc::{AllocError, Global};
 use std::thread::Threads;

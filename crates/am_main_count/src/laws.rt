@@ -3,7 +3,6 @@
 ghost use Rattle.am_main_count.specs.Counts.{CountsHaveOneAnswer};
 
 /// The command `count` without turns has at most one answer to a text: a status and a text.
-#[tactic(auto, using(crate::proofs::OneAnswer::counts_have_one_answer))]
 pub fn counts_have_one_answer()
     ensures { CountsHaveOneAnswer }
 {}

@@ -1,6 +1,7 @@
 //! The command `count`: the words of a text, counted by messages over the cluster, and what is printed of them.
 #![tactic(auto)]
 
+pub mod cluster;
 mod counts;
 mod laws;
 

@@ -4,7 +4,7 @@ ghost use Rattle.std.specs.Prelude.{◌≡◌, IfOk};
 ghost use Rattle.am_main_lines.specs.Lines.{answer_in, full_line, refusal};
 
 use crate::words::{full_line, refused_line};
-use am_office::Part;
+use am_office_entries::Part;
 use am_scenario_types::ScenarioFault;
 use std::alloc::{AllocError, Global};
 

@@ -5,8 +5,8 @@ ghost use Rattle.am_office_report.specs.Report.{report};
 
 use crate::words::full_line;
 use am_names::EndpointId;
-use am_office::Part;
-use am_office_journal::LoggedJournal;
+use am_office_entries::Part;
+use am_office_entries::logged::LoggedJournal;
 use am_office_report::report;
 use am_scenario_types::{EndLine, Scenario};
 use std::alloc::{AllocError, Global};

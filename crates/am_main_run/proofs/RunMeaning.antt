@@ -1,13 +1,13 @@
 -- What a whole drain says of a scenario's run, of a phase of its threads or of the empty journal.
 use Rattle.std.proofs.Common.{◌≡◌, ℕ, List, [], ◌++◌, length, inl, inr, refl, ap, subst}
-use Rattle.am_office.specs.declared.Entry.{Entry}
-use Rattle.am_office.specs.declared.Part.{Part}
+use Rattle.am_office_entries.specs.declared.Entry.{Entry}
+use Rattle.am_office_entries.specs.declared.Part.{Part}
 use Rattle.am_office_report.specs.Report.{report}
 use Rattle.am_scenario_types.specs.Lists.{ScenarioLists}
 use Rattle.am_model_drain.specs.Cut.{IsDrainedWithRoom}
 use Rattle.am_model_drain.specs.Drain.{IsDrained}
 use Rattle.am_model_drain.proofs.Determined.{drain_is_determined}
-use Rattle.am_laws_drain_steps.specs.Runs.{IsWholeRun}
+use Rattle.am_laws_runs.specs.Turns.Runs.{IsWholeRun}
 use Rattle.am_cluster.proofs.Obeying.{alone_is_done}
 use Rattle.am_cluster.specs.Runs.{IsAloneCutOff, IsRunCutOff, IsRunDone, ObeysRunLaws}
 use Rattle.am_main_lines.specs.Lines.{Answer, full_line, ids_of}

@@ -9,7 +9,7 @@ ghost use Rattle.am_office_report.specs.Report.{summary};
 
 use am_cluster::{RunFault, RunJournal, alone};
 use am_main_lines::{Output, full_output};
-use am_office::NoMemory;
+use am_office_entries::NoMemory;
 use am_office_report::summary;
 use am_office_text::Piece::{Number, Text};
 use am_office_text::put_line;

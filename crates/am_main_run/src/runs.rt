@@ -1,7 +1,7 @@
 // The run of a scenario.
 ghost use Rattle.std.specs.Prelude.{◌≡◌, ◌++◌, IfErr, IfOk};
 ghost use Rattle.am_cluster.specs.Runs.{IsRunDone, IsRunStopped, ObeysRunLaws};
-ghost use Rattle.am_laws_drain_steps.specs.Runs.{IsWholeRun};
+ghost use Rattle.am_laws_runs.specs.Turns.Runs.{IsWholeRun};
 ghost use Rattle.am_main_lines.specs.Lines.{answer_in, full_line, ids_of};
 ghost use Rattle.am_main_run.specs.Runs.{IsRunAnswer, RunAnswers};
 ghost use Rattle.am_office_report.specs.Report.{report};
@@ -12,7 +12,7 @@ ghost use Rattle.am_scenario_types.specs.declared.parts.Network.TheVariants as N
 
 use am_cluster::{Finished, OpenGate, RunFault, RunJournal, run};
 use am_main_lines::{Output, cut_text, fault_output, report_of};
-use am_office::Part;
+use am_office_entries::Part;
 use am_scenario::{Form, ReadFault, Scenario, read};
 use std::alloc::{AllocError, Global};
 use std::thread::Threads;

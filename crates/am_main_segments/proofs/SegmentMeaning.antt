@@ -10,12 +10,12 @@ use Rattle.am_names.specs.Names.{has_serial}
 use Rattle.am_names.specs.Rules.{is_transient}
 use Rattle.am_names.specs.declared.Cause.{Cause}
 use Rattle.am_names.specs.declared.Message.{Message}
-use Rattle.am_office.specs.declared.Entry.{Entry}
-use Rattle.am_office.specs.declared.Part.{Part}
-use Rattle.am_office.specs.declared.endings.Fate.{Fate}
-use Rattle.am_office.specs.declared.endings.Fate.TheVariants as Fates
-use Rattle.am_office.specs.Entries.{accepted_of, passes}
-use Rattle.am_office.specs.Fates.{fate, fate_of_accepted, is_accepted}
+use Rattle.am_office_entries.specs.declared.Entry.{Entry}
+use Rattle.am_office_entries.specs.declared.Part.{Part}
+use Rattle.am_office_entries.specs.declared.endings.Fate.{Fate}
+use Rattle.am_office_entries.specs.declared.endings.Fate.TheVariants as Fates
+use Rattle.am_office_entries.specs.Entries.{accepted_of, passes}
+use Rattle.am_office_entries.specs.Fates.{fate, fate_of_accepted, is_accepted}
 use Rattle.am_office_report.specs.Report.{report}
 use Rattle.am_scenario_types.specs.declared.faults.ScenarioFault.{ScenarioFault}
 use Rattle.am_scenario.specs.Grammar.{grammar}
@@ -23,8 +23,8 @@ use Rattle.am_scenario_types.specs.declared.parts.Form.TheVariants as Forms
 use Rattle.am_scenario_types.specs.Lists.{ScenarioLists}
 use Rattle.am_model.specs.PostOffice.{WasAccepted}
 use Rattle.am_model.proofs.Names.{same_serial-refl}
-use Rattle.am_laws_drain_steps.specs.Endings.{WithholdsNothing}
-use Rattle.am_laws_drain_steps.specs.Runs.{IsWholeRun}
+use Rattle.am_laws_runs.specs.Turns.Endings.{WithholdsNothing}
+use Rattle.am_laws_runs.specs.Turns.Runs.{IsWholeRun}
 use Rattle.am_cluster.specs.Runs.{IsRunCutOff, IsRunDone, ObeysRunLaws}
 use Rattle.am_segment_pieces.specs.declared.segment.SegmentLine.{SegmentLine}
 use Rattle.am_segment_pieces.specs.Segments.{byte_at, segment_bytes}
@@ -33,9 +33,9 @@ use Rattle.am_segment.specs.Lists.{ExpandedLists}
 use Rattle.am_segment.specs.Printed.{segments_text}
 use Rattle.am_segment.specs.Expansion.{expansion}
 use Rattle.am_segment.specs.Spelling.{read_expanded, segment_grammar, told_at, line_behind}
-use Rattle.am_segment_laws.specs.Laws.{IsFor}
+use Rattle.am_segment_pieces.specs.Laws.Laws.{IsFor}
 use Rattle.am_segment.specs.Lawful.{HasSegment}
-use Rattle.am_segment_laws.proofs.Arrives.{blocks_arrive}
+use Rattle.am_segment_pieces.proofs.Arrives.{blocks_arrive}
 use Rattle.am_segment.proofs.Lawfully.{expansions_are_lawful}
 use Rattle.am_main_lines.specs.Lines.{full_line, ids_of}
 use Rattle.am_main_run.specs.Runs.{IsRunOf}

@@ -3,14 +3,14 @@ use Rattle.std.specs.Prelude.{◌≡◌, ◌⊎◌, ℕ, ◌+◌, ◌<◌, false
 use Rattle.am_names.specs.Rules.{is_transient}
 use Rattle.am_names.specs.declared.Cause.{Cause}
 use Rattle.am_names.specs.declared.Message.{Message}
-use Rattle.am_office.specs.declared.Entry.{Entry}
-use Rattle.am_office.specs.declared.Part.{Part}
-use Rattle.am_office.specs.declared.endings.Fate.TheVariants as Fates
-use Rattle.am_office.specs.Fates.{fate}
+use Rattle.am_office_entries.specs.declared.Entry.{Entry}
+use Rattle.am_office_entries.specs.declared.Part.{Part}
+use Rattle.am_office_entries.specs.declared.endings.Fate.TheVariants as Fates
+use Rattle.am_office_entries.specs.Fates.{fate}
 use Rattle.am_office_report.specs.Report.{report}
 use Rattle.am_scenario_types.specs.declared.faults.ScenarioFault.{ScenarioFault}
 use Rattle.am_model.specs.PostOffice.{WasAccepted}
-use Rattle.am_laws_drain_steps.specs.Endings.{WithholdsNothing}
+use Rattle.am_laws_runs.specs.Turns.Endings.{WithholdsNothing}
 use Rattle.am_segment_pieces.specs.declared.segment.SegmentLine.{SegmentLine}
 use Rattle.am_segment_pieces.specs.Lists.{TransferLists}
 use Rattle.am_segment_pieces.specs.Blocks.{piece_count}
@@ -18,7 +18,7 @@ use Rattle.am_segment_pieces.specs.Segments.{ran_count, segment_bytes, segment_o
 use Rattle.am_segment.specs.declared.scenario.SegmentScenario.{SegmentScenario}
 use Rattle.am_segment.specs.Lists.{ExpandedLists}
 use Rattle.am_segment.specs.Printed.{segments_text}
-use Rattle.am_segment_laws.specs.Laws.{IsUndisturbed}
+use Rattle.am_segment_pieces.specs.Laws.Laws.{IsUndisturbed}
 use Rattle.am_main_lines.specs.Lines.{Answer, ids_of, refusal}
 use Rattle.am_main_run.specs.Runs.{IsRunOf, PrintsCutRun}
 

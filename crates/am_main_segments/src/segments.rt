@@ -13,7 +13,7 @@ ghost use Rattle.am_segment.specs.Lawful.{HasSegment};
 use am_cluster::{OpenGate, RunFault, RunJournal, run};
 use am_main_lines::{Output, fault_output};
 use am_main_run::{cut_run_text, run_text};
-use am_office::NoMemory;
+use am_office_entries::NoMemory;
 use am_scenario::ReadFault;
 use am_segment::{SegmentScenario, read_segments, segments_text};
 use std::alloc::{AllocError, Global};

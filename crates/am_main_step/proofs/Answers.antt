@@ -6,8 +6,8 @@ use Rattle.am_main_lines.specs.Lines.{Answer, full_line, refusal}
 use Rattle.am_main_step.specs.Answer.{not_enabled_line}
 use Rattle.am_main_step.specs.Meaning.{StepAnswers, TextMeans}
 use Rattle.am_main_step.specs.declared.faults.StepFault.TheVariants as Faults
-use Rattle.am_office.specs.declared.Condition.{Condition}
-use Rattle.am_office.specs.declared.Part.{Part}
+use Rattle.am_office_entries.specs.declared.Condition.{Condition}
+use Rattle.am_office_entries.specs.declared.Part.{Part}
 use Rattle.am_scenario_types.specs.declared.faults.ScenarioFault.{ScenarioFault}
 use Rattle.am_scenario_types.specs.Lists.{ScenarioLists}
 

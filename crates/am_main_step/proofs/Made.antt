@@ -2,9 +2,9 @@
 use Rattle.std.specs.Prelude.{slice_get, slice_index_or, Result, Ok, Err}
 use Rattle.std.proofs.Common.{◌≡◌, ℕ, zero, suc, ◌+◌, ◌<◌, ◌≤◌, true, List, [], ◌∷◌, ◌++◌, length, take, drop, Option, Some, None, refl, sym, ap, ◌∙◌, subst}
 use Rattle.std.proofs.Common.{arith, length-append}
-use Rattle.am_office.specs.declared.Condition.{Condition}
-use Rattle.am_office.specs.declared.Event.{Event}
-use Rattle.am_office.specs.declared.Entry.{Entry}
+use Rattle.am_office_entries.specs.declared.Condition.{Condition}
+use Rattle.am_office_entries.specs.declared.Event.{Event}
+use Rattle.am_office_entries.specs.declared.Entry.{Entry}
 use Rattle.am_office_report.specs.Report.{report}
 use Rattle.am_scenario_types.specs.declared.parts.StepLine.{StepLine}
 use Rattle.am_scenario_types.specs.Lawful.{IsLawful}
@@ -13,8 +13,8 @@ use Rattle.am_model_scripts.specs.Layout.{layout_of, events_of}
 use Rattle.am_model_scripts.proofs.Lawful.{lawful_layout, steps_in_range}
 use Rattle.am_laws.proofs.Laws.{post_office}
 use Rattle.am_laws.proofs.OneFate.{one_fate}
-use Rattle.am_model_steps.specs.Laws.{AreInRange, IsMade, Walked}
-use Rattle.am_model_steps.proofs.Steps.{is_made, histories_agree, walked_more}
+use Rattle.am_model_scripts.specs.Steps.Laws.{AreInRange, IsMade, Walked}
+use Rattle.am_model_scripts.proofs.StepMakers.{is_made, histories_agree, walked_more}
 use Rattle.am_model_drain.specs.Made.{next_entry}
 use Rattle.am_model_drain.proofs.Entries.{entry_is_step}
 use Rattle.am_model.specs.History.{is_in_range}

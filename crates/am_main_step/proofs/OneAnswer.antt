@@ -2,8 +2,8 @@
 use Rattle.std.specs.Prelude.{slice_get, Result, Ok, Err}
 use Rattle.std.proofs.Common.{◌≡◌, ◌↔◌, ℕ, List, length, Option, Some, None, refl, sym, ap, ◌∙◌, subst, inl, inr, arith}
 use Rattle.std.proofs.lemmas.List.{length-map, take_all}
-use Rattle.am_office.specs.declared.Entry.{Entry}
-use Rattle.am_office.specs.declared.Event.{Event}
+use Rattle.am_office_entries.specs.declared.Entry.{Entry}
+use Rattle.am_office_entries.specs.declared.Event.{Event}
 use Rattle.am_office_report.specs.Report.{report}
 use Rattle.am_scenario.specs.Grammar.{grammar}
 use Rattle.am_scenario.proofs.Lawfully.{spells_lawful}
@@ -13,8 +13,8 @@ use Rattle.am_scenario_types.specs.declared.faults.ScenarioFault.{ScenarioFault}
 use Rattle.am_scenario_types.specs.declared.parts.Form.TheVariants as Forms
 use Rattle.am_model_scripts.specs.Layout.{layout_of, events_of}
 use Rattle.am_model.specs.Steps.{Made, Stop, NotEnabled, LogFull, made}
-use Rattle.am_model_steps.specs.Laws.{StopsAt}
-use Rattle.am_model_steps.proofs.Steps.{made_alone}
+use Rattle.am_model_scripts.specs.Steps.Laws.{StopsAt}
+use Rattle.am_model_scripts.proofs.StepMakers.{made_alone}
 use Rattle.am_main_lines.specs.Lines.{Answer, full_line, ids_of}
 use Rattle.am_main_step.specs.Answer.{answer_of, answer_of_made, answer_of_stop, line_at, not_enabled_line}
 use Rattle.am_main_step.specs.Meaning.{IsStepStopped, PrintsHistory, StepAnswers, StepHasOneAnswer}

@@ -2,9 +2,9 @@
 use Rattle.std.specs.Prelude.{◌≡◌, ◌⊎◌, ◌↔◌, ℕ, List, [], length, take, Result, Ok, Err, slice_get}
 use Rattle.std.specs.Global.{Vec}
 use Rattle.am_names.specs.declared.Serial.{Serial}
-use Rattle.am_office.specs.declared.Condition.{Condition}
-use Rattle.am_office.specs.declared.Entry.{Entry}
-use Rattle.am_office.specs.declared.Part.{Part}
+use Rattle.am_office_entries.specs.declared.Condition.{Condition}
+use Rattle.am_office_entries.specs.declared.Entry.{Entry}
+use Rattle.am_office_entries.specs.declared.Part.{Part}
 use Rattle.am_office_report.specs.Report.{report}
 use Rattle.am_scenario.specs.Grammar.{grammar}
 use Rattle.am_scenario_types.specs.declared.faults.ScenarioFault.{ScenarioFault}
@@ -12,7 +12,7 @@ use Rattle.am_scenario_types.specs.declared.parts.Form.TheVariants as Forms
 use Rattle.am_scenario_types.specs.Lists.{ScenarioLists}
 use Rattle.am_model_scripts.specs.Layout.{layout_of, events_of}
 use Rattle.am_laws.specs.Fates.{HasOneFate}
-use Rattle.am_model_steps.specs.Laws.{IsUnstopped, StopsAt}
+use Rattle.am_model_scripts.specs.Steps.Laws.{IsUnstopped, StopsAt}
 use Rattle.am_model.specs.History.{EachAfter, IsHistory}
 use Rattle.am_model.specs.PostOffice.{PostOffice}
 use Rattle.am_model.specs.Steps.{FollowsSteps, Stop, NotEnabled, LogFull}

@@ -1,4 +1,4 @@
-use am_office::{Condition, Part};
+use am_office_entries::{Condition, Part};
 use am_scenario::ScenarioFault;
 use thiserror::Error;
 

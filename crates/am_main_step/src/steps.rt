@@ -1,7 +1,7 @@
 // The steps of a scenario, one after the other.
 ghost use Rattle.std.specs.Prelude.{◌≡◌, []};
 ghost use Rattle.am_model_scripts.specs.Layout.{events_of, layout_of};
-ghost use Rattle.am_model_steps.specs.Laws.{AreInRange};
+ghost use Rattle.am_model_scripts.specs.Steps.Laws.{AreInRange};
 ghost use Rattle.am_main_step.specs.Answer.{GivesText, Makes, TellsText, answer_of, fault_of};
 ghost use Rattle.am_main_step.specs.Meaning.{TextMeans};
 ghost use Rattle.am_model.specs.Steps.{made};

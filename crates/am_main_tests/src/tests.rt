@@ -3,7 +3,7 @@ use crate::scripts;
 use crate::tables::{Device, PATH, PATH_REPORT};
 use crate::texts::{CHECKS, CONDITIONS, COUNTS, DIRECT, FAULTS, IDLE, NO_FORMS, PACKET, RUNS, Row};
 use am_main::{Command, StepFault, command_of, step_text};
-use am_office::Condition;
+use am_office_entries::Condition;
 use std::alloc::{AllocError, Global};
 use std::test::Fail;
 use std::thread::Threads;

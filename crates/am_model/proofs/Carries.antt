@@ -1,8 +1,8 @@
 -- A carry that the definitions give may arrive at its destination, and a receipt that decides too.
 use Rattle.std.proofs.Common.{◌≡◌, true, ◌&&◌, refl}
 use Rattle.std.proofs.lemmas.Bool.{and_parts}
-use Rattle.am_office.specs.declared.Call.{Call}
-use Rattle.am_office.specs.declared.Call.TheVariants as Calls
+use Rattle.am_office_entries.specs.declared.Call.{Call}
+use Rattle.am_office_entries.specs.declared.Call.TheVariants as Calls
 use Rattle.am_model.specs.History.{are_credits_in_range, is_byte, is_call_in_range, is_kind_in_range, is_eight_bytes}
 use Rattle.am_model.specs.Layout.{Layout, declared}
 use Rattle.am_model.specs.Allowed.{are_numbers_in_range}

@@ -4,10 +4,10 @@ use Rattle.std.proofs.lemmas.List.{append-nil}
 use Rattle.std.specs.List.{filter}
 use Rattle.std.proofs.lemmas.List.Elements.{filter-append}
 use Rattle.am_names.specs.declared.EndpointId.{EndpointId}
-use Rattle.am_office.specs.declared.Entry.{Entry}
+use Rattle.am_office_entries.specs.declared.Entry.{Entry}
 use Rattle.am_model.specs.Endpoint.{State}
 use Rattle.am_model.specs.Changes.{after, replay}
-use Rattle.am_office.specs.Entries.{touches}
+use Rattle.am_office_entries.specs.Entries.{touches}
 use Rattle.am_model.specs.Layout.{Layout, opening}
 use Rattle.am_model.specs.History.{state_of, EachAfter}
 

@@ -6,10 +6,10 @@ use Rattle.std.proofs.lemmas.List.{reverse-append}
 use Rattle.std.specs.List.{find, filter, filter_map, cons_option}
 use Rattle.am_names.specs.declared.NodeId.{NodeId}
 use Rattle.am_names.specs.declared.Packet.{Packet}
-use Rattle.am_office.specs.declared.Entry.{Entry}
+use Rattle.am_office_entries.specs.declared.Entry.{Entry}
 use Rattle.am_model.specs.Channels.{Channel, last_such, sequence, bound_message, bound_by, sent_message, attempt, attempt_by, attempt_in, mark, mark_by}
 use Rattle.am_model.specs.Channels.{mark_in, binds, sends, frees, decides, emitted, is_on_link}
-use Rattle.am_office.specs.Entries.{emitted_of}
+use Rattle.am_office_entries.specs.Entries.{emitted_of}
 use Rattle.am_model.proofs.Received.{bit}
 use Rattle.std.proofs.lemmas.List.Sums.{sum_by_push}
 

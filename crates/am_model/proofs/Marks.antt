@@ -9,9 +9,9 @@ use Rattle.am_names.specs.declared.Cause.{Cause}
 use Rattle.am_names.specs.declared.Verdict.{Verdict}
 use Rattle.am_names.specs.declared.Verdict.TheVariants as Verdicts
 use Rattle.am_names.specs.declared.AnswerPacket.{AnswerPacket}
-use Rattle.am_office.specs.declared.Received.TheVariants as Got
-use Rattle.am_office.specs.declared.Entry.{Entry}
-use Rattle.am_office.specs.Entries.{answer_by}
+use Rattle.am_office_entries.specs.declared.Received.TheVariants as Got
+use Rattle.am_office_entries.specs.declared.Entry.{Entry}
+use Rattle.am_office_entries.specs.Entries.{answer_by}
 use Rattle.am_model.specs.Changes.{flying_of}
 use Rattle.am_model.specs.Layout.{Layout}
 use Rattle.am_model.specs.Channels.{Channel, Mark, sequence, attempt, Stale, Again, Fresh, arrival, arrival_at}

@@ -15,7 +15,7 @@ use Rattle.am_model.specs.declared.Awaited.{Awaited}
 use Rattle.am_model.specs.Choice.{without_first}
 use Rattle.am_model.specs.Endpoint.{is_arrived, is_waited_for, waits_for}
 use Rattle.am_model.specs.Changes.{arrived, is_of, without_waiting, without_record, with_arrived}
-use Rattle.am_office.specs.Entries.{is_serial}
+use Rattle.am_office_entries.specs.Entries.{is_serial}
 use Rattle.am_model.specs.Valid.{answers, has_arrived, rise}
 use Rattle.am_model.proofs.Names.{same_serial-is, same_serial-refl}
 use Rattle.am_model.proofs.Received.{bit, find_counts}

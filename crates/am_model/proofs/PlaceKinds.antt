@@ -1,7 +1,7 @@
 -- Places of endpoints: a place is of one kind alone.
 use Rattle.std.proofs.Common.{◌≡◌, ℕ, true, false, refl, sym, true≢false}
-use Rattle.am_office.specs.declared.Place.{Place}
-use Rattle.am_office.specs.declared.Place.TheVariants.{Host, Disk, Frame, Direct}
+use Rattle.am_office_entries.specs.declared.Place.{Place}
+use Rattle.am_office_entries.specs.declared.Place.TheVariants.{Host, Disk, Frame, Direct}
 use Rattle.am_model.specs.Endpoint.{is_on_host, is_on_disk, is_resident, is_in_a_frame, is_direct}
 use Rattle.am_model.specs.History.{is_in_frame}
 

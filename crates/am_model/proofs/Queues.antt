@@ -9,17 +9,17 @@ use Rattle.am_names.specs.declared.Message.{Message}
 use Rattle.am_names.specs.declared.Cause.{Cause}
 use Rattle.am_names.specs.declared.Verdict.{Verdict}
 use Rattle.am_names.specs.declared.Verdict.TheVariants as Verdicts
-use Rattle.am_office.specs.declared.Call.{Call}
-use Rattle.am_office.specs.declared.Call.TheVariants as Calls
-use Rattle.am_office.specs.declared.Event.{Event}
-use Rattle.am_office.specs.declared.Event.TheVariants as Events
-use Rattle.am_office.specs.declared.Outcome.{Outcome}
-use Rattle.am_office.specs.declared.Outcome.TheVariants as Out
+use Rattle.am_office_entries.specs.declared.Call.{Call}
+use Rattle.am_office_entries.specs.declared.Call.TheVariants as Calls
+use Rattle.am_office_entries.specs.declared.Event.{Event}
+use Rattle.am_office_entries.specs.declared.Event.TheVariants as Events
+use Rattle.am_office_entries.specs.declared.Outcome.{Outcome}
+use Rattle.am_office_entries.specs.declared.Outcome.TheVariants as Out
 use Rattle.am_names.specs.Names.{same_end, is_request}
 use Rattle.am_model.specs.declared.Queued.{Queued}
 use Rattle.am_model.specs.Endpoint.{State, Body, front, front_of}
 use Rattle.am_model.specs.Changes.{called, left, reached, queued, appended, requests_left, without_front, paged_out, paged_in, changed, put}
-use Rattle.am_office.specs.Entries.{accepted_by, ends_touched}
+use Rattle.am_office_entries.specs.Entries.{accepted_by, ends_touched}
 use Rattle.am_model.specs.History.{judged}
 use Rattle.am_model.proofs.Received.{weight, one_touched}
 

@@ -7,14 +7,14 @@ use Rattle.std.proofs.lemmas.List.Sums.{sum_by_push, sum_by-cons}
 use Rattle.am_names.specs.declared.EndpointId.{EndpointId}
 use Rattle.am_names.specs.declared.Message.{Message}
 use Rattle.am_names.specs.declared.Serial.{Serial}
-use Rattle.am_office.specs.declared.Call.{Call}
-use Rattle.am_office.specs.declared.Call.TheVariants as Calls
-use Rattle.am_office.specs.declared.Outcome.{Outcome}
-use Rattle.am_office.specs.declared.Outcome.TheVariants as Out
+use Rattle.am_office_entries.specs.declared.Call.{Call}
+use Rattle.am_office_entries.specs.declared.Call.TheVariants as Calls
+use Rattle.am_office_entries.specs.declared.Outcome.{Outcome}
+use Rattle.am_office_entries.specs.declared.Outcome.TheVariants as Out
 use Rattle.am_names.specs.declared.Words.{Words}
-use Rattle.am_office.specs.declared.Refusal.{Refusal}
-use Rattle.am_office.specs.declared.HandlerKind.{HandlerKind}
-use Rattle.am_office.specs.declared.HandlerKind.TheVariants.{Note, Echo, Add}
+use Rattle.am_office_entries.specs.declared.Refusal.{Refusal}
+use Rattle.am_office_entries.specs.declared.HandlerKind.{HandlerKind}
+use Rattle.am_office_entries.specs.declared.HandlerKind.TheVariants.{Note, Echo, Add}
 use Rattle.am_names.specs.Names.{same_serial, is_reply, is_request}
 use Rattle.am_model.specs.Choice.{without_first, first_holding}
 use Rattle.am_model.specs.declared.Notice.{Notice}
@@ -22,9 +22,9 @@ use Rattle.am_model.specs.Endpoint.{State, replies_held, Body, IsWithinBounds, i
 use Rattle.am_model.specs.Calls.{outcome_of_call, poll, poll_received, poll_requests, request_refusal, unless, new_request, request_message, has_no_credit}
 use Rattle.am_model.specs.Calls.{answer, handler_run}
 use Rattle.am_model.specs.Changes.{called, appended, without_record, is_of, without_waiting, answer_ran, request_ran, request_accepted}
-use Rattle.am_office.specs.Entries.{run_by, accepted_by}
+use Rattle.am_office_entries.specs.Entries.{run_by, accepted_by}
 use Rattle.std.proofs.lemmas.List.{length_push}
-use Rattle.am_office.specs.declared.Refusal.TheVariants as No
+use Rattle.am_office_entries.specs.declared.Refusal.TheVariants as No
 use Rattle.am_model.specs.declared.Awaited.{Awaited}
 use Rattle.am_model.specs.declared.Mapping.{Mapping}
 use Rattle.am_model.specs.declared.Queued.{Queued}

@@ -8,15 +8,15 @@ use Rattle.am_names.specs.declared.Verdict.TheVariants as Verdicts
 use Rattle.am_names.specs.declared.Message.{Message}
 use Rattle.am_names.specs.declared.Packet.{Packet}
 use Rattle.am_names.specs.declared.Packet.TheVariants as Packets
-use Rattle.am_office.specs.declared.Event.{Event}
-use Rattle.am_office.specs.declared.Event.TheVariants as Events
-use Rattle.am_office.specs.declared.Received.{Received}
-use Rattle.am_office.specs.declared.Received.TheVariants as Got
-use Rattle.am_office.specs.declared.Outcome.{Outcome}
-use Rattle.am_office.specs.declared.Outcome.TheVariants as Out
-use Rattle.am_office.specs.declared.Entry.{Entry}
+use Rattle.am_office_entries.specs.declared.Event.{Event}
+use Rattle.am_office_entries.specs.declared.Event.TheVariants as Events
+use Rattle.am_office_entries.specs.declared.Received.{Received}
+use Rattle.am_office_entries.specs.declared.Received.TheVariants as Got
+use Rattle.am_office_entries.specs.declared.Outcome.{Outcome}
+use Rattle.am_office_entries.specs.declared.Outcome.TheVariants as Out
+use Rattle.am_office_entries.specs.declared.Entry.{Entry}
 use Rattle.am_names.specs.Names.{same_node}
-use Rattle.am_office.specs.Entries.{emitted_of}
+use Rattle.am_office_entries.specs.Entries.{emitted_of}
 
 -- one channel of a node to a peer
 pub record Channel : Type 0 where

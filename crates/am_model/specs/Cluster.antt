@@ -12,13 +12,13 @@ use Rattle.am_names.specs.declared.Message.{Message}
 use Rattle.am_names.specs.declared.Parcel.{Parcel}
 use Rattle.am_names.specs.declared.AnswerPacket.{AnswerPacket}
 use Rattle.am_names.specs.declared.Packet.TheVariants as Packets
-use Rattle.am_office.specs.declared.Event.{Event}
-use Rattle.am_office.specs.declared.Event.TheVariants as Events
-use Rattle.am_office.specs.declared.Received.{Received}
-use Rattle.am_office.specs.declared.Received.TheVariants as Got
-use Rattle.am_office.specs.declared.Outcome.{Outcome}
-use Rattle.am_office.specs.declared.Outcome.TheVariants as Out
-use Rattle.am_office.specs.declared.Entry.{Entry}
+use Rattle.am_office_entries.specs.declared.Event.{Event}
+use Rattle.am_office_entries.specs.declared.Event.TheVariants as Events
+use Rattle.am_office_entries.specs.declared.Received.{Received}
+use Rattle.am_office_entries.specs.declared.Received.TheVariants as Got
+use Rattle.am_office_entries.specs.declared.Outcome.{Outcome}
+use Rattle.am_office_entries.specs.declared.Outcome.TheVariants as Out
+use Rattle.am_office_entries.specs.declared.Entry.{Entry}
 use Rattle.am_names.specs.Names.{same_serial, has_serial, is_request}
 use Rattle.am_model.specs.declared.Awaited.{Awaited}
 use Rattle.am_model.specs.declared.Queued.{Queued}
@@ -27,7 +27,7 @@ use Rattle.am_model.specs.declared.Notice.{Notice}
 use Rattle.am_model.specs.declared.Mapping.{Mapping}
 use Rattle.am_model.specs.Calls.{records_at}
 use Rattle.am_model.specs.Endpoint.{Body, IsWithinBounds, is_in_a_frame, entry_at}
-use Rattle.am_office.specs.Entries.{put_by, put_of, run_of, returned_of, unknown_of, requeue_of, emitted_of}
+use Rattle.am_office_entries.specs.Entries.{put_by, put_of, run_of, returned_of, unknown_of, requeue_of, emitted_of}
 use Rattle.am_model.specs.Layout.{Layout, AllAre, home}
 use Rattle.am_model.specs.Channels.{Channel, Mark, same_channel, sequence, bound_message, attempt, mark}
 use Rattle.am_model.specs.History.{state_of, channel_to}

@@ -4,8 +4,8 @@ use Rattle.std.specs.List.{list_any}
 use Rattle.am_names.specs.declared.EndpointId.{EndpointId}
 use Rattle.am_names.specs.declared.NodeId.{NodeId}
 use Rattle.am_names.specs.declared.Tag.{Tag}
-use Rattle.am_office.specs.declared.Place.{Place}
-use Rattle.am_office.specs.declared.Place.TheVariants.{Host, Disk, Direct}
+use Rattle.am_office_entries.specs.declared.Place.{Place}
+use Rattle.am_office_entries.specs.declared.Place.TheVariants.{Host, Disk, Direct}
 use Rattle.am_names.specs.Names.{same_end, same_node}
 use Rattle.am_model.specs.Endpoint.{State, fresh}
 

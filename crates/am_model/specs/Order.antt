@@ -1,7 +1,7 @@
 -- What every endpoint keeps.
 use Rattle.std.specs.Prelude.{◌≡◌, ℕ, ◌≤◌, false, Option, []}
 use Rattle.am_names.specs.declared.EndpointId.{EndpointId}
-use Rattle.am_office.specs.declared.Entry.{Entry}
+use Rattle.am_office_entries.specs.declared.Entry.{Entry}
 use Rattle.am_model.specs.Endpoint.{State, IsWithinBounds, is_in_a_frame}
 use Rattle.am_model.specs.Changes.{after}
 use Rattle.am_model.specs.Valid.{IsValid}

@@ -1,12 +1,12 @@
 -- Which entries stand in the log of a part, and which a node's driver makes.
 use Rattle.std.specs.Prelude.{ℕ, ◌-◌, ◌<◌, Bool, Option, Some, None, List, length, slice_get}
 use Rattle.am_names.specs.declared.NodeId.{NodeId}
-use Rattle.am_office.specs.declared.Event.{Event}
-use Rattle.am_office.specs.declared.Event.TheVariants as Events
-use Rattle.am_office.specs.declared.Entry.{Entry}
-use Rattle.am_office.specs.declared.Part.{Part}
-use Rattle.am_office.specs.declared.Part.TheVariants as Parts
-use Rattle.am_office.specs.Entries.{is_node, touches, touches_node}
+use Rattle.am_office_entries.specs.declared.Event.{Event}
+use Rattle.am_office_entries.specs.declared.Event.TheVariants as Events
+use Rattle.am_office_entries.specs.declared.Entry.{Entry}
+use Rattle.am_office_entries.specs.declared.Part.{Part}
+use Rattle.am_office_entries.specs.declared.Part.TheVariants as Parts
+use Rattle.am_office_entries.specs.Entries.{is_node, touches, touches_node}
 use Rattle.am_model.specs.Layout.{AllAre}
 
 -- whether an entry stands in the log of a part

@@ -13,21 +13,21 @@ use Rattle.am_names.specs.declared.Cause.{Cause}
 use Rattle.am_names.specs.declared.Cause.TheVariants.{NotResident}
 use Rattle.am_names.specs.declared.Why.{Why}
 use Rattle.am_names.specs.declared.Why.TheVariants as Whys
-use Rattle.am_office.specs.declared.Refusal.TheVariants as No
-use Rattle.am_office.specs.declared.Call.{Call}
-use Rattle.am_office.specs.declared.Call.TheVariants as Calls
-use Rattle.am_office.specs.declared.Outcome.TheVariants as Out
-use Rattle.am_office.specs.declared.Event.{Event}
-use Rattle.am_office.specs.declared.Event.TheVariants as Events
-use Rattle.am_office.specs.declared.Outcome.{Outcome}
-use Rattle.am_office.specs.declared.Entry.{Entry}
+use Rattle.am_office_entries.specs.declared.Refusal.TheVariants as No
+use Rattle.am_office_entries.specs.declared.Call.{Call}
+use Rattle.am_office_entries.specs.declared.Call.TheVariants as Calls
+use Rattle.am_office_entries.specs.declared.Outcome.TheVariants as Out
+use Rattle.am_office_entries.specs.declared.Event.{Event}
+use Rattle.am_office_entries.specs.declared.Event.TheVariants as Events
+use Rattle.am_office_entries.specs.declared.Outcome.{Outcome}
+use Rattle.am_office_entries.specs.declared.Entry.{Entry}
 use Rattle.am_model.specs.declared.Mapping.{Mapping}
 use Rattle.am_model.specs.Layout.{Layout, home, opening}
 use Rattle.am_model.specs.Calls.{share_of}
 use Rattle.am_model.specs.History.{EachAfter}
 use Rattle.am_names.specs.Names.{same_end, has_serial, is_request, is_reply}
-use Rattle.am_office.specs.Entries.{passes, is_serial, touches, accepted_of, put_of, run_of, returned_of, unknown_of, return_of, requeue_of, refusal_of}
-use Rattle.am_office.specs.Entries.{zero_of, given_up_of}
+use Rattle.am_office_entries.specs.Entries.{passes, is_serial, touches, accepted_of, put_of, run_of, returned_of, unknown_of, return_of, requeue_of, refusal_of}
+use Rattle.am_office_entries.specs.Entries.{zero_of, given_up_of}
 
 -- how many entries have, in this role, a message that passes
 abbrev pub times : (Entry → Option Message) → (Message → Bool) → List Entry → ℕ

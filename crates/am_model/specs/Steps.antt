@@ -3,12 +3,12 @@ use Rattle.std.specs.Prelude.{◌≡◌, ◌+◌, Bool, nat_le, nat_lt, Option, 
 use Rattle.std.specs.List.{range_with_len}
 use Rattle.am_names.specs.declared.EndpointId.{EndpointId}
 use Rattle.am_names.specs.declared.NodeId.{NodeId}
-use Rattle.am_office.specs.declared.Condition.{Condition}
-use Rattle.am_office.specs.declared.Event.{Event}
-use Rattle.am_office.specs.declared.Entry.{Entry}
-use Rattle.am_office.specs.declared.Part.{Part}
-use Rattle.am_office.specs.declared.Part.TheVariants as Parts
-use Rattle.am_office.specs.Entries.{touches, touches_node, ends_touched, node_touched}
+use Rattle.am_office_entries.specs.declared.Condition.{Condition}
+use Rattle.am_office_entries.specs.declared.Event.{Event}
+use Rattle.am_office_entries.specs.declared.Entry.{Entry}
+use Rattle.am_office_entries.specs.declared.Part.{Part}
+use Rattle.am_office_entries.specs.declared.Part.TheVariants as Parts
+use Rattle.am_office_entries.specs.Entries.{touches, touches_node, ends_touched, node_touched}
 use Rattle.am_model.specs.Layout.{Layout}
 use Rattle.am_model.specs.History.{failing, outcome_of}
 

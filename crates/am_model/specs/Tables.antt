@@ -6,10 +6,10 @@ use Rattle.std.specs.Prelude.{ℕ, ◌+◌, Bool, ◌==◌, ◌&&◌, not, nat_l
 use Rattle.am_names.specs.Rules.{is_transient}
 use Rattle.am_names.specs.declared.Cause.{Cause}
 use Rattle.am_names.specs.declared.Serial.{Serial}
-use Rattle.am_office.specs.declared.Condition.{Condition}
-use Rattle.am_office.specs.declared.Condition.TheVariants as Needs
-use Rattle.am_office.specs.declared.Outcome.{Outcome}
-use Rattle.am_office.specs.declared.Outcome.TheVariants as Out
+use Rattle.am_office_entries.specs.declared.Condition.{Condition}
+use Rattle.am_office_entries.specs.declared.Condition.TheVariants as Needs
+use Rattle.am_office_entries.specs.declared.Outcome.{Outcome}
+use Rattle.am_office_entries.specs.declared.Outcome.TheVariants as Out
 use Rattle.am_model.specs.Endpoint.{State, is_resident, is_on_disk, is_on_host, front}
 
 -- a call needs an endpoint that is not on disk

@@ -2,7 +2,7 @@
 #![tactic(auto)]
 
 ghost use Rattle.am_model.specs.DelayedTry as delayed;
-ghost use Rattle.am_office.specs.Fates.{fate};
+ghost use Rattle.am_office_entries.specs.Fates.{fate};
 ghost use Rattle.am_model.specs.Merge.{is_ordered};
 ghost use Rattle.am_model.specs.FullQueue as full;
 ghost use Rattle.am_model.specs.History.{EachAfter, IsHistory};
@@ -11,7 +11,7 @@ ghost use Rattle.am_model.specs.ThinPath as thin;
 ghost use Rattle.std.specs.Prelude.{◌≡◌, [], Some, true};
 
 use am_names::{EndpointId, Message, Serial, Tag, Why};
-use am_office::{Condition, Fate, Part, Place};
+use am_office_entries::{Condition, Fate, Part, Place};
 
 mod limits;
 mod places;

@@ -4,7 +4,7 @@ ghost use Rattle.am_model.specs.Tables.{may_bounce};
 ghost use Rattle.std.specs.Prelude.{◌≡◌};
 
 use am_names::{Cause, Message, Verdict};
-use am_office::Outcome;
+use am_office_entries::Outcome;
 
 /// Whether a message that was refused for this cause, and bounced so often, may bounce once more: the cause may pass with
 /// time, and the message bounced less often than the limit allows.

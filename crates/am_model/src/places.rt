@@ -3,7 +3,7 @@ ghost use Rattle.am_model.specs.Endpoint.{is_in_a_frame, is_on_disk, is_on_host,
 ghost use Rattle.am_model.specs.History.{is_in_frame};
 ghost use Rattle.std.specs.Prelude.{◌≡◌};
 
-use am_office::Place;
+use am_office_entries::Place;
 
 /// Whether an endpoint that lies there takes messages and sends them: in a frame of its node, or in the direct network.
 pub fn is_resident(place: Place) -> bool

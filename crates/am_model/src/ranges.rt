@@ -4,7 +4,7 @@ ghost use Rattle.am_model.specs.History.{are_credits_in_range, is_kind_in_range}
 ghost use Rattle.std.specs.Prelude.{◌≡◌, ◌≤◌, sum_by};
 
 use crate::Mapping;
-use am_office::HandlerKind;
+use am_office_entries::HandlerKind;
 
 /// Whether a number may be the credits of an index, 1 to 8, or its least share where there is a pool, 0 to 8.
 pub fn are_credits_in_range(pool: Option<u8>, credits: u8) -> bool

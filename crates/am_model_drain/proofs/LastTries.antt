@@ -6,11 +6,11 @@ use Rattle.am_lemmas.proofs.Lists.{map_alike}
 use Rattle.am_lemmas.proofs.Bools.{not_implied, implied_anyway}
 use Rattle.am_names.specs.declared.NodeId.{NodeId}
 use Rattle.am_names.specs.declared.Packet.{Packet}
-use Rattle.am_office.specs.declared.Event.{Event}
-use Rattle.am_office.specs.declared.Event.TheVariants as Events
-use Rattle.am_office.specs.declared.Outcome.{Outcome}
-use Rattle.am_office.specs.declared.Entry.{Entry}
-use Rattle.am_office.specs.Entries.{emitted_in}
+use Rattle.am_office_entries.specs.declared.Event.{Event}
+use Rattle.am_office_entries.specs.declared.Event.TheVariants as Events
+use Rattle.am_office_entries.specs.declared.Outcome.{Outcome}
+use Rattle.am_office_entries.specs.declared.Entry.{Entry}
+use Rattle.am_office_entries.specs.Entries.{emitted_in}
 use Rattle.am_model.specs.Channels.{emitted, is_on_link}
 use Rattle.am_model.proofs.Each.{each_push, each_imply}
 use Rattle.am_scenario_plan.specs.Shape.{shape, number_of}

@@ -7,7 +7,7 @@ use Rattle.am_lemmas.proofs.Lists.{find_passes}
 use Rattle.am_names.specs.declared.NodeId.{NodeId}
 use Rattle.am_names.specs.declared.Message.{Message}
 use Rattle.am_names.specs.Names.{is_request}
-use Rattle.am_office.specs.declared.Entry.{Entry}
+use Rattle.am_office_entries.specs.declared.Entry.{Entry}
 use Rattle.am_model.specs.declared.Queued.{Queued}
 use Rattle.am_model.specs.Endpoint.{front_of}
 use Rattle.am_model.specs.History.{is_bound, channel_to}

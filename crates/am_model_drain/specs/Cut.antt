@@ -1,8 +1,8 @@
 -- A drain that meets a full log.
 use Rattle.std.specs.Prelude.{◌≡◌, Option, Some, None, List, ◌++◌}
-use Rattle.am_office.specs.declared.Part.{Part}
-use Rattle.am_office.specs.declared.Entry.{Entry}
-use Rattle.am_office.specs.Entries.{ends_touched, node_touched}
+use Rattle.am_office_entries.specs.declared.Part.{Part}
+use Rattle.am_office_entries.specs.declared.Entry.{Entry}
+use Rattle.am_office_entries.specs.Entries.{ends_touched, node_touched}
 use Rattle.am_model.specs.History.{EachAfter}
 use Rattle.am_model.specs.Steps.{is_end_full, least_such, full_by}
 use Rattle.am_scenario_types.specs.Lists.{ScenarioLists}

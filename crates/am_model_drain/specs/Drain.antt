@@ -1,8 +1,8 @@
 -- The drain: what is done when no thread runs any more, turn by turn until no rule applies.
 use Rattle.std.specs.Prelude.{◌≡◌, ℕ, zero, suc, Option, Some, None, List, ◌∷◌, ◌++◌, option_map, option_and_then}
-use Rattle.am_office.specs.declared.Actor.TheVariants.{Thread}
-use Rattle.am_office.specs.declared.Event.TheVariants as Events
-use Rattle.am_office.specs.declared.Entry.{Entry}
+use Rattle.am_office_entries.specs.declared.Actor.TheVariants.{Thread}
+use Rattle.am_office_entries.specs.declared.Event.TheVariants as Events
+use Rattle.am_office_entries.specs.declared.Entry.{Entry}
 use Rattle.am_model.specs.Layout.{home}
 use Rattle.am_scenario_types.specs.Lists.{ScenarioLists}
 use Rattle.am_model_scripts.specs.Layout.{layout_of}

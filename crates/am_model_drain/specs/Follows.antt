@@ -1,7 +1,7 @@
 -- Which journals follow the scripts of a scenario, and which are stopped for a full log.
 use Rattle.std.specs.Prelude.{◌≡◌, true, List, count_by}
-use Rattle.am_office.specs.declared.Part.{Part}
-use Rattle.am_office.specs.declared.Entry.{Entry}
+use Rattle.am_office_entries.specs.declared.Part.{Part}
+use Rattle.am_office_entries.specs.declared.Entry.{Entry}
 use Rattle.am_model.specs.History.{IsHistory}
 use Rattle.am_scenario_types.specs.Lists.{ScenarioLists}
 use Rattle.am_model_scripts.specs.Layout.{layout_of}

@@ -1,8 +1,8 @@
 -- What is so of every drain.
 use Rattle.std.specs.Prelude.{◌≡◌, Bool, true, ◌==◌, Option, Some, None, List, length, find, is_some, ◌<◌, ◌≤◌, count_by}
 use Rattle.std.specs.List.{list_all}
-use Rattle.am_office.specs.declared.Entry.{Entry}
-use Rattle.am_office.specs.declared.Part.{Part}
+use Rattle.am_office_entries.specs.declared.Entry.{Entry}
+use Rattle.am_office_entries.specs.declared.Part.{Part}
 use Rattle.am_model.specs.declared.Queued.{Queued}
 use Rattle.am_model.specs.Endpoint.{front}
 use Rattle.am_scenario_types.specs.Lists.{ScenarioLists}

@@ -1,11 +1,11 @@
 -- A journal after one event more.
 use Rattle.std.specs.Prelude.{◌≡◌, ℕ, ◌+◌, max, Bool, true, false, None, List, [], ◌∷◌, ◌++◌, fold}
-use Rattle.am_office.specs.declared.Event.{Event}
-use Rattle.am_office.specs.declared.Entry.{Entry}
+use Rattle.am_office_entries.specs.declared.Event.{Event}
+use Rattle.am_office_entries.specs.declared.Entry.{Entry}
 use Rattle.am_model.specs.Layout.{Layout}
 use Rattle.am_model.specs.History.{MayFollow, is_in_range, failing, outcome_of}
 use Rattle.am_model.specs.Steps.{step_entry}
-use Rattle.am_model_steps.specs.Laws.{Walked}
+use Rattle.am_model_scripts.specs.Steps.Laws.{Walked}
 
 abbrev pub later_stamp : ℕ → Entry → ℕ
 later_stamp stamp x = max stamp x.stamp

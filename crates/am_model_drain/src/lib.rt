@@ -8,7 +8,7 @@ ghost use Rattle.am_model_drain.specs.Laws.{CutIsDetermined, CutOffIsStopped, Dr
 ghost use Rattle.am_model_drain.specs.Made.{EntryIsStep, EntryMayFollow};
 
 use am_names::{EndpointId, Message, NodeId};
-use am_office::Event;
+use am_office_entries::Event;
 use am_scenario_types::ScriptCall;
 
 /// A turn of the drain.

@@ -5,9 +5,9 @@ use Rattle.std.proofs.Common.{◌≡◌, ℕ, ◌<◌, Bool, true, false, cond, 
 use Rattle.std.proofs.lemmas.List.Elements.{filter-append}
 use Rattle.std.proofs.lemmas.Bool.{or_right}
 use Rattle.am_names.specs.declared.EndpointId.{EndpointId}
-use Rattle.am_office.specs.declared.Entry.{Entry}
+use Rattle.am_office_entries.specs.declared.Entry.{Entry}
 use Rattle.am_names.specs.Names.{same_end}
-use Rattle.am_office.specs.Entries.{touches, share_part, shares_node, ends_touched, node_touched}
+use Rattle.am_office_entries.specs.Entries.{touches, share_part, shares_node, ends_touched, node_touched}
 use Rattle.am_model.proofs.Names.{same_end-refl}
 use Rattle.am_model.specs.Layout.{AllAre}
 use Rattle.am_model_merge.specs.Logs.{before, IsRising}

@@ -7,8 +7,8 @@ use Rattle.std.proofs.lemmas.Bool.{and_parts, and_from}
 use Rattle.am_names.specs.declared.EndpointId.{EndpointId}
 use Rattle.am_names.specs.declared.NodeId.{NodeId}
 use Rattle.am_names.specs.Names.{same_end}
-use Rattle.am_office.specs.declared.Entry.{Entry}
-use Rattle.am_office.specs.Entries.{touches, touches_node, ends_touched, node_touched, is_node}
+use Rattle.am_office_entries.specs.declared.Entry.{Entry}
+use Rattle.am_office_entries.specs.Entries.{touches, touches_node, ends_touched, node_touched, is_node}
 use Rattle.am_model.specs.Merge.{rank, rank_by, is_before, is_ordered}
 use Rattle.am_model.specs.Parts.{is_by_driver}
 use Rattle.am_model.proofs.Names.{same_end-first}

@@ -2,8 +2,8 @@
 use Rattle.std.specs.Prelude.{◌≡◌, ◌↔◌, ℕ, ◌<◌, nat_lt, true, List, [], ◌∷◌, filter, Contains}
 use Rattle.am_names.specs.declared.EndpointId.{EndpointId}
 use Rattle.am_names.specs.declared.NodeId.{NodeId}
-use Rattle.am_office.specs.declared.Entry.{Entry}
-use Rattle.am_office.specs.Entries.{touches, touches_node}
+use Rattle.am_office_entries.specs.declared.Entry.{Entry}
+use Rattle.am_office_entries.specs.Entries.{touches, touches_node}
 use Rattle.am_model.specs.Layout.{AllAre}
 use Rattle.am_model.specs.Merge.{IsMerged}
 use Rattle.am_model.specs.Parts.{is_by_driver}

@@ -10,7 +10,7 @@ ghost use Rattle.am_model.specs.Layout.{AllAre, IsLawful, Layout};
 ghost use Rattle.am_model.specs.Merge.{IsMerged, is_ordered};
 ghost use Rattle.am_names.specs.declared.EndpointId.{EndpointId};
 ghost use Rattle.am_names.specs.declared.NodeId.{NodeId};
-ghost use Rattle.am_office.specs.declared.Entry.{Entry};
+ghost use Rattle.am_office_entries.specs.declared.Entry.{Entry};
 ghost use Rattle.std.specs.Prelude.{◌≡◌, ◌↔◌, ◌++◌, [], ◌∷◌, false, true, List};
 
 /// Logs in which stamps rise, and in which each entry is right by the logs of the parts that made it as they stood before

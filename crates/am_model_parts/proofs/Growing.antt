@@ -6,8 +6,8 @@ use Rattle.std.proofs.lemmas.List.Sums.{sum_by_push}
 use Rattle.am_names.specs.declared.EndpointId.{EndpointId}
 use Rattle.am_names.specs.declared.NodeId.{NodeId}
 use Rattle.am_names.specs.declared.Packet.{Packet}
-use Rattle.am_office.specs.declared.Entry.{Entry}
-use Rattle.am_office.specs.Entries.{emitted_of, touches}
+use Rattle.am_office_entries.specs.declared.Entry.{Entry}
+use Rattle.am_office_entries.specs.Entries.{emitted_of, touches}
 use Rattle.am_model.specs.Channels.{binds, frees, sends, decides, emitted, is_on_link, last_such}
 use Rattle.am_model.specs.History.{channel_to, is_page_call, page_calls}
 use Rattle.am_model.proofs.Each.{state_of_push}

@@ -9,7 +9,7 @@ use Rattle.am_names.specs.declared.NodeId.{NodeId}
 use Rattle.am_names.specs.Names.{same_end, same_node}
 use Rattle.am_model.specs.Layout.{Layout, EndSetting, AllAre, AreApart, has_id, home, home_by}
 use Rattle.am_model.specs.History.{is_home, is_home_by}
-use Rattle.am_office.specs.Entries.{is_node}
+use Rattle.am_office_entries.specs.Entries.{is_node}
 use Rattle.am_model.proofs.Names.{same_end-is, same_end-refl}
 use Rattle.am_model_parts.specs.Together.{AreDeclaredOnce, ends_of}
 

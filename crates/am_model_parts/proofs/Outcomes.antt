@@ -9,13 +9,13 @@ use Rattle.am_names.specs.declared.Message.{Message}
 use Rattle.am_names.specs.declared.AnswerPacket.{AnswerPacket}
 use Rattle.am_names.specs.declared.Packet.{Packet}
 use Rattle.am_names.specs.declared.Packet.TheVariants as Packets
-use Rattle.am_office.specs.declared.Event.TheVariants as Events
-use Rattle.am_office.specs.declared.Received.{Received}
-use Rattle.am_office.specs.declared.Received.TheVariants as Got
-use Rattle.am_office.specs.declared.Outcome.{Outcome}
-use Rattle.am_office.specs.declared.Outcome.TheVariants as Out
-use Rattle.am_office.specs.declared.Condition.TheVariants as Needs
-use Rattle.am_office.specs.declared.Entry.{Entry}
+use Rattle.am_office_entries.specs.declared.Event.TheVariants as Events
+use Rattle.am_office_entries.specs.declared.Received.{Received}
+use Rattle.am_office_entries.specs.declared.Received.TheVariants as Got
+use Rattle.am_office_entries.specs.declared.Outcome.{Outcome}
+use Rattle.am_office_entries.specs.declared.Outcome.TheVariants as Out
+use Rattle.am_office_entries.specs.declared.Condition.TheVariants as Needs
+use Rattle.am_office_entries.specs.declared.Entry.{Entry}
 use Rattle.am_model.specs.Tables.{may_try, tries_ended}
 use Rattle.am_model.specs.declared.Queued.{Queued}
 use Rattle.am_model.specs.Choice.{first_holding}
@@ -33,7 +33,7 @@ use Rattle.am_model_parts.specs.Together.{IsPart, IsState, IsAt, SaysTheSame}
 use Rattle.am_model.specs.Packets.{from_of, number_of}
 use Rattle.am_model_parts.proofs.Parts.{sequence_own, bound_own, attempt_own, mark_own, number_own, free_own}
 use Rattle.am_model_parts.proofs.Homes.{home_is}
-use Rattle.am_office.specs.Entries.{is_node}
+use Rattle.am_office_entries.specs.Entries.{is_node}
 
 -- each reading of a channel's ends is the same by both lists
 pub record SameEnds (past log : List Entry) (c : Channel) : Type 0 where

@@ -6,15 +6,15 @@ use Rattle.std.specs.List.{filter, filter_map, find, cons_option}
 use Rattle.std.proofs.lemmas.Bool.{and_parts}
 use Rattle.am_names.specs.declared.NodeId.{NodeId}
 use Rattle.am_names.specs.declared.Packet.{Packet}
-use Rattle.am_office.specs.declared.Event.{Event}
-use Rattle.am_office.specs.declared.Event.TheVariants as Events
-use Rattle.am_office.specs.declared.Received.{Received}
-use Rattle.am_office.specs.declared.Received.TheVariants as Got
-use Rattle.am_office.specs.declared.Outcome.{Outcome}
-use Rattle.am_office.specs.declared.Outcome.TheVariants as Out
-use Rattle.am_office.specs.declared.Entry.{Entry}
+use Rattle.am_office_entries.specs.declared.Event.{Event}
+use Rattle.am_office_entries.specs.declared.Event.TheVariants as Events
+use Rattle.am_office_entries.specs.declared.Received.{Received}
+use Rattle.am_office_entries.specs.declared.Received.TheVariants as Got
+use Rattle.am_office_entries.specs.declared.Outcome.{Outcome}
+use Rattle.am_office_entries.specs.declared.Outcome.TheVariants as Out
+use Rattle.am_office_entries.specs.declared.Entry.{Entry}
 use Rattle.am_names.specs.Names.{same_node}
-use Rattle.am_office.specs.Entries.{touches_node, is_node, node_touched, emitted_of, emitted_in, parcel, answer_packet, answer_by}
+use Rattle.am_office_entries.specs.Entries.{touches_node, is_node, node_touched, emitted_of, emitted_in, parcel, answer_packet, answer_by}
 use Rattle.am_model.specs.Channels.{Channel, same_channel, sends_on, binds, sends, frees, frees_by, ends_tries, decides, decides_by, last_such, sequence}
 use Rattle.am_model.specs.Channels.{bound_by, bound_message, attempt_by, attempt, mark_by, mark, emitted, is_on_link}
 use Rattle.am_model.specs.History.{free_from, channel_to, next_number}

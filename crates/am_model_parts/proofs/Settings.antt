@@ -7,7 +7,7 @@ use Rattle.std.proofs.lemmas.List.FromFn.{get_or-map-range_with_len, length-map-
 use Rattle.am_names.specs.declared.EndpointId.{EndpointId}
 use Rattle.am_names.specs.declared.NodeId.{NodeId}
 use Rattle.am_names.specs.Names.{same_end}
-use Rattle.am_office.specs.declared.Entry.{Entry}
+use Rattle.am_office_entries.specs.declared.Entry.{Entry}
 use Rattle.am_model.specs.Layout.{AllAre, EndSetting, IsLawful, IsSettingLawful, Layout, has_id, home, home_by}
 use Rattle.am_model_parts.specs.Interface.{home_in}
 use Rattle.am_model_parts.specs.Together.{IsDriverPart, IsPart, driver_in, homes_of, interface_in}

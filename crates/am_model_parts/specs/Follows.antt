@@ -1,9 +1,9 @@
 -- One entry more: what parts the journal has after it, and that an entry which a part finds by its own log may come next.
 use Rattle.std.specs.Prelude.{◌≡◌, ◌<◌, true, List, [], ◌∷◌, ◌++◌, filter}
 use Rattle.am_names.specs.declared.EndpointId.{EndpointId}
-use Rattle.am_office.specs.declared.Event.{Event}
-use Rattle.am_office.specs.declared.Entry.{Entry}
-use Rattle.am_office.specs.Entries.{touches, touches_node}
+use Rattle.am_office_entries.specs.declared.Event.{Event}
+use Rattle.am_office_entries.specs.declared.Entry.{Entry}
+use Rattle.am_office_entries.specs.Entries.{touches, touches_node}
 use Rattle.am_model.specs.Layout.{AllAre, Layout}
 use Rattle.am_model.specs.History.{is_in_range}
 use Rattle.am_model_parts.specs.Driver.{DriverLog}

@@ -2,8 +2,8 @@
 use Rattle.std.specs.Prelude.{◌≡◌, ℕ, ◌+◌, List, [], MatchOption}
 use Rattle.am_names.specs.declared.NodeId.{NodeId}
 use Rattle.am_names.specs.declared.Packet.{Packet}
-use Rattle.am_office.specs.declared.Entry.{Entry}
-use Rattle.am_office.specs.Entries.{emitted_of}
+use Rattle.am_office_entries.specs.declared.Entry.{Entry}
+use Rattle.am_office_entries.specs.Entries.{emitted_of}
 use Rattle.am_model.specs.History.{EachAfter, next_number}
 use Rattle.am_model.specs.Packets.{stamp_of, from_of, number_of, receiver_of}
 

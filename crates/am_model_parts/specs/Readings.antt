@@ -3,8 +3,8 @@
 use Rattle.std.specs.Prelude.{◌≡◌, ℕ, Bool, true, false, ◌+◌, ◌||◌, List, [], ◌∷◌, ◌++◌, filter, if◌then◌else◌}
 use Rattle.am_names.specs.declared.EndpointId.{EndpointId}
 use Rattle.am_names.specs.declared.NodeId.{NodeId}
-use Rattle.am_office.specs.declared.Entry.{Entry}
-use Rattle.am_office.specs.Entries.{touches, touches_node}
+use Rattle.am_office_entries.specs.declared.Entry.{Entry}
+use Rattle.am_office_entries.specs.Entries.{touches, touches_node}
 use Rattle.am_model.specs.Changes.{after}
 use Rattle.am_model.specs.Layout.{Layout}
 use Rattle.am_model.specs.Channels.{Channel, sequence, bound_message, attempt, mark, emitted, binds, frees, sends, decides, sent_message, attempt_in, mark_in}

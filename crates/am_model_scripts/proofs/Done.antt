@@ -1,7 +1,7 @@
 -- Where no call is left, the scripts are done.
 use Rattle.std.proofs.Common.{◌≡◌, List, [], ◌∷◌, length, take, None, ◌∙◌}
 use Rattle.std.specs.List.{AllByRecursion}
-use Rattle.am_office.specs.declared.Entry.{Entry}
+use Rattle.am_office_entries.specs.declared.Entry.{Entry}
 use Rattle.am_scenario_types.specs.declared.parts.ThreadLine.{ThreadLine}
 use Rattle.am_scenario_types.specs.Lists.{ScenarioLists}
 use Rattle.am_model_scripts.specs.Scripts.{calls_of, script_of, call_left, ScriptsAreDone}

@@ -11,14 +11,14 @@ use Rattle.am_names.specs.declared.EndpointId.{EndpointId}
 use Rattle.am_names.specs.declared.NodeId.{NodeId}
 use Rattle.am_names.specs.declared.Words.{Words}
 use Rattle.am_names.specs.Names.{same_end, same_node}
-use Rattle.am_office.specs.declared.Actor.{Actor}
-use Rattle.am_office.specs.declared.Actor.TheVariants.{Outside}
-use Rattle.am_office.specs.declared.HandlerKind.{HandlerKind}
-use Rattle.am_office.specs.declared.HandlerKind.TheVariants.{Note, Echo, Add}
-use Rattle.am_office.specs.declared.Call.{Call}
-use Rattle.am_office.specs.declared.Call.TheVariants as Calls
-use Rattle.am_office.specs.declared.Event.{Event}
-use Rattle.am_office.specs.declared.Event.TheVariants as Events
+use Rattle.am_office_entries.specs.declared.Actor.{Actor}
+use Rattle.am_office_entries.specs.declared.Actor.TheVariants.{Outside}
+use Rattle.am_office_entries.specs.declared.HandlerKind.{HandlerKind}
+use Rattle.am_office_entries.specs.declared.HandlerKind.TheVariants.{Note, Echo, Add}
+use Rattle.am_office_entries.specs.declared.Call.{Call}
+use Rattle.am_office_entries.specs.declared.Call.TheVariants as Calls
+use Rattle.am_office_entries.specs.declared.Event.{Event}
+use Rattle.am_office_entries.specs.declared.Event.TheVariants as Events
 use Rattle.am_scenario_types.specs.declared.parts.EndLine.{EndLine}
 use Rattle.am_scenario_types.specs.declared.parts.FaultLine.{FaultLine}
 use Rattle.am_scenario_types.specs.declared.parts.Network.{Network}
@@ -28,7 +28,7 @@ use Rattle.am_scenario_types.specs.Lists.{ScenarioLists}
 use Rattle.am_scenario_types.specs.Lawful as lawful
 use Rattle.am_model.specs.Layout.{EndSetting, Fault, AllAre, AreApart, IsSettingLawful, IsFaultLawful, IsPoolLawful, IsLawful, has_id, declared}
 use Rattle.am_model.specs.History.{is_in_range, is_call_in_range, is_actor_in_range, are_words_in_range, are_credits_in_range, is_kind_in_range, is_byte}
-use Rattle.am_model_steps.specs.Laws.{AreInRange}
+use Rattle.am_model_scripts.specs.Steps.Laws.{AreInRange}
 use Rattle.am_model_scripts.specs.Layout.{is_direct, setting_of, fault_of, layout_of, events_of}
 
 -- ---- each and each two

@@ -3,3 +3,4 @@ pub mod Done
 pub mod Links
 pub mod Declared
 pub mod Lawful
+pub mod StepMakers

@@ -1,6 +1,6 @@
 -- The layout in which a scenario begins, and the events of its steps.
 use Rattle.std.specs.Prelude.{Bool, true, false, List, map}
-use Rattle.am_office.specs.declared.Event.{Event}
+use Rattle.am_office_entries.specs.declared.Event.{Event}
 use Rattle.am_scenario_types.specs.declared.parts.Network.{Network}
 use Rattle.am_scenario_types.specs.declared.parts.Network.TheVariants as Networks
 use Rattle.am_scenario_types.specs.declared.parts.EndLine.{EndLine}

@@ -3,3 +3,4 @@ pub mod Scripts
 pub mod Standings
 pub mod Follows
 pub mod Layout
+pub mod Steps

@@ -4,9 +4,9 @@ use Rattle.std.specs.List.{range_with_len, AllByRecursion}
 use Rattle.am_names.specs.declared.NodeId.{NodeId}
 use Rattle.am_names.specs.declared.Packet.{Packet}
 use Rattle.am_names.specs.Names.{same_node}
-use Rattle.am_office.specs.declared.Event.{Event}
-use Rattle.am_office.specs.declared.Event.TheVariants as Events
-use Rattle.am_office.specs.declared.Entry.{Entry}
+use Rattle.am_office_entries.specs.declared.Event.{Event}
+use Rattle.am_office_entries.specs.declared.Event.TheVariants as Events
+use Rattle.am_office_entries.specs.declared.Entry.{Entry}
 use Rattle.am_model.specs.Channels.{emitted}
 use Rattle.am_model.specs.History.{EachAfter}
 use Rattle.am_model.specs.Layout.{node_at}

@@ -3,12 +3,14 @@
 #![tactic(auto)]
 
 ghost use Rattle.am_model_scripts.specs.Layout.{events_of, layout_of};
-ghost use Rattle.am_model_steps.specs.Laws.{AreInRange};
+ghost use Rattle.am_model_scripts.specs.Steps.Laws.{AreInRange};
 ghost use Rattle.am_model.specs.Layout as model;
 ghost use Rattle.am_scenario_types.specs.Lawful as scenario;
 ghost use Rattle.am_scenario_types.specs.Lists.{ScenarioLists};
 ghost use Rattle.am_model_scripts.specs.Links.{AllIsReceived, ReceivesBeginning};
 ghost use Rattle.am_model_scripts.specs.Scripts.{ScriptsAreDone};
+
+pub mod steps;
 
 /// Where the scripts have begun and no thread has a call left, they are done.
 pub fn scripts_are_done()

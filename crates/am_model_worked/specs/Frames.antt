@@ -1,8 +1,8 @@
 -- A frame is free once its endpoint is unloaded.
 use Rattle.std.specs.Prelude.{false, None, List, [], ◌∷◌}
-use Rattle.am_office.specs.declared.Event.TheVariants as Events
-use Rattle.am_office.specs.declared.Outcome.TheVariants as Out
-use Rattle.am_office.specs.declared.Entry.{Entry}
+use Rattle.am_office_entries.specs.declared.Event.TheVariants as Events
+use Rattle.am_office_entries.specs.declared.Outcome.TheVariants as Out
+use Rattle.am_office_entries.specs.declared.Entry.{Entry}
 use Rattle.am_model.specs.Layout.{Layout}
 
 abbrev pub layout : Layout

@@ -1,12 +1,12 @@
 //! Worked journals: journals that are histories, and the fates in them.
 #![tactic(auto)]
 
-ghost use Rattle.am_office.specs.Fates.{fate};
+ghost use Rattle.am_office_entries.specs.Fates.{fate};
 ghost use Rattle.am_model.specs.Cluster.{sequences_bound, sequences_requeued};
 ghost use Rattle.am_model.specs.History.{IsHistory, channel_to, failing};
-ghost use Rattle.am_office.specs.declared.Actor.TheVariants.{Outside};
-ghost use Rattle.am_office.specs.declared.Call.TheVariants as Calls;
-ghost use Rattle.am_office.specs.declared.Event.TheVariants as Events;
+ghost use Rattle.am_office_entries.specs.declared.Actor.TheVariants.{Outside};
+ghost use Rattle.am_office_entries.specs.declared.Call.TheVariants as Calls;
+ghost use Rattle.am_office_entries.specs.declared.Event.TheVariants as Events;
 ghost use Rattle.am_model_worked.specs.AddUp as add_up_row;
 ghost use Rattle.am_model_worked.specs.Answered as answered_row;
 ghost use Rattle.am_model_worked.specs.Blocked as blocked_row;
@@ -26,8 +26,11 @@ ghost use Rattle.am_model_worked.specs.Tags as tags_row;
 ghost use Rattle.am_model_worked.specs.UnknownButRan as unknown_but_ran_row;
 ghost use Rattle.std.specs.Prelude.{take, ◌≡◌, ◌∷◌, [], Some};
 
+pub mod drain;
+pub mod parts;
+
 use am_names::Cause;
-use am_office::{Condition, Fate};
+use am_office_entries::{Condition, Fate};
 
 /// An echo comes back, and its credit with it.
 pub fn echo_back()

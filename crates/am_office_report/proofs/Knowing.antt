@@ -12,18 +12,18 @@ use Rattle.am_lemmas.proofs.Options.{option_or-None}
 use Rattle.am_names.specs.declared.Serial.{Serial}
 use Rattle.am_names.specs.declared.Cause.{Cause}
 use Rattle.am_names.specs.Names.{same_serial, has_serial, serial_order}
-use Rattle.am_office.specs.declared.Call.TheVariants as Calls
-use Rattle.am_office.specs.declared.Event.{Event}
-use Rattle.am_office.specs.declared.Event.TheVariants as Events
-use Rattle.am_office.specs.declared.Received.{Received}
-use Rattle.am_office.specs.declared.Received.TheVariants as Got
-use Rattle.am_office.specs.declared.Outcome.{Outcome}
-use Rattle.am_office.specs.declared.Outcome.TheVariants as Out
-use Rattle.am_office.specs.declared.Entry.{Entry}
+use Rattle.am_office_entries.specs.declared.Call.TheVariants as Calls
+use Rattle.am_office_entries.specs.declared.Event.{Event}
+use Rattle.am_office_entries.specs.declared.Event.TheVariants as Events
+use Rattle.am_office_entries.specs.declared.Received.{Received}
+use Rattle.am_office_entries.specs.declared.Received.TheVariants as Got
+use Rattle.am_office_entries.specs.declared.Outcome.{Outcome}
+use Rattle.am_office_entries.specs.declared.Outcome.TheVariants as Out
+use Rattle.am_office_entries.specs.declared.Entry.{Entry}
 use Rattle.am_office_report.specs.declared.known.Known.{Known}
 use Rattle.am_office_report.specs.declared.known.News.TheVariants as Latest
-use Rattle.am_office.specs.Entries.{passes, is_serial, run_in, unknown_in, run_of, unknown_of}
-use Rattle.am_office.specs.Fates.{cause_of, cause_by, cause_if, causes_of, is_unknown, is_run}
+use Rattle.am_office_entries.specs.Entries.{passes, is_serial, run_in, unknown_in, run_of, unknown_of}
+use Rattle.am_office_entries.specs.Fates.{cause_of, cause_by, cause_if, causes_of, is_unknown, is_run}
 use Rattle.am_office_report.specs.Tables.{news_in, news_by, known_with, known_of, known_after}
 
 pub order_same : (about s : Serial) → is_eq (serial_order about s) ≡ same_serial s about

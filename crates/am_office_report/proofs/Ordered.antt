@@ -14,9 +14,9 @@ use Rattle.am_names.specs.declared.Serial.{Serial}
 use Rattle.am_names.specs.declared.MsgKind.{MsgKind}
 use Rattle.am_names.specs.declared.Message.{Message}
 use Rattle.am_names.specs.Names.{same_serial, has_serial, serial_order}
-use Rattle.am_office.specs.declared.Entry.{Entry}
-use Rattle.am_office.specs.Entries.{accepted_of, passes}
-use Rattle.am_office.specs.Fates.{is_accepted}
+use Rattle.am_office_entries.specs.declared.Entry.{Entry}
+use Rattle.am_office_entries.specs.Entries.{accepted_of, passes}
+use Rattle.am_office_entries.specs.Fates.{is_accepted}
 use Rattle.am_office_report.specs.Report.{listed, listed_with}
 use Rattle.am_office_report.proofs.Knowing.{order_same}
 use Rattle.am_office_report.proofs.Sorting.{sorted_insert}

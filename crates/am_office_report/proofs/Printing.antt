@@ -4,10 +4,10 @@ use Rattle.std.specs.Borrow.{Bor}
 use Rattle.std.specs.List.{flat_map}
 use Rattle.std.proofs.lemmas.Grind.{flat_map-append}
 use Rattle.std.proofs.lemmas.List.{append-nil}
-use Rattle.am_office.specs.declared.Entry.{Entry}
-use Rattle.am_office_journal.specs.Behind.{entries_behind}
-use Rattle.am_office_journal.proofs.Entries.{behind_next}
-use Rattle.am_office_lines.specs.Lines.{line_of}
+use Rattle.am_office_entries.specs.declared.Entry.{Entry}
+use Rattle.am_office_entries.specs.Logged.Behind.{entries_behind}
+use Rattle.am_office_entries.proofs.Entries.{behind_next}
+use Rattle.am_office_text.specs.EntryLines.Lines.{line_of}
 
 pub lines_next : (xs : List (Bor Entry)) (i : ℕ) (d : Bor Entry) → i < length xs →
     flat_map line_of (take (i + 1) (entries_behind xs)) ≡ flat_map line_of (take i (entries_behind xs)) ++ line_of (get_or xs i d).now

@@ -4,7 +4,7 @@ use Rattle.std.specs.Prelude.{codes}
 use Rattle.std.specs.Fmt.{decimal}
 use Rattle.std.specs.List.{flat_map}
 use Rattle.am_names.specs.declared.EndpointId.{EndpointId}
-use Rattle.am_office_lines.specs.Lines.{line_of}
+use Rattle.am_office_text.specs.EntryLines.Lines.{line_of}
 use Rattle.am_office_text.specs.Words.{line}
 use Rattle.am_office_report.specs.Report.{SummaryIsOfReport, report, journal_part, entries_line, end_part, messages_part, fate_line, told, totals}
 

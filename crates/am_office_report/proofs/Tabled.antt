@@ -10,9 +10,9 @@ use Rattle.am_names.specs.Names.{same_end}
 use Rattle.std.proofs.lemmas.List.Elements.{filter_map-append}
 use Rattle.std.proofs.Math.Seq.{take-suc}
 use Rattle.am_names.specs.declared.EndpointId.{EndpointId}
-use Rattle.am_office.specs.declared.Entry.{Entry}
-use Rattle.am_office_journal.specs.Behind.{entries_behind}
-use Rattle.am_office_journal.proofs.Entries.{behind_at, length_behind}
+use Rattle.am_office_entries.specs.declared.Entry.{Entry}
+use Rattle.am_office_entries.specs.Logged.Behind.{entries_behind}
+use Rattle.am_office_entries.proofs.Entries.{behind_at, length_behind}
 use Rattle.am_office_report.specs.declared.runs.Run.{Run}
 use Rattle.am_office_report.specs.Report.{run_at, run_if, run_in}
 use Rattle.am_office_report.specs.Tables.{with_run, AreRuns}

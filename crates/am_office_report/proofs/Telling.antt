@@ -10,18 +10,18 @@ use Rattle.am_names.specs.declared.Serial.{Serial}
 use Rattle.am_names.specs.declared.MsgKind.{MsgKind}
 use Rattle.am_names.specs.declared.Message.{Message}
 use Rattle.am_names.specs.Names.{serial_order}
-use Rattle.am_office.specs.declared.Entry.{Entry}
-use Rattle.am_office_journal.specs.Behind.{entries_behind}
-use Rattle.am_office_journal.proofs.Entries.{behind_at, length_behind}
+use Rattle.am_office_entries.specs.declared.Entry.{Entry}
+use Rattle.am_office_entries.specs.Logged.Behind.{entries_behind}
+use Rattle.am_office_entries.proofs.Entries.{behind_at, length_behind}
 use Rattle.am_office_report.specs.declared.sources.MessageState.{MessageState}
 use Rattle.am_office_report.specs.declared.known.Known.{Known}
 use Rattle.am_office_report.specs.declared.known.News.{News}
-use Rattle.am_office.specs.Entries.{accepted_of}
-use Rattle.am_office.specs.Fates.{causes_of, is_unknown, is_run, fate_of_accepted}
+use Rattle.am_office_entries.specs.Entries.{accepted_of}
+use Rattle.am_office_entries.specs.Fates.{causes_of, is_unknown, is_run, fate_of_accepted}
 use Rattle.am_office_report.specs.Report.{told, listed, listed_with}
 use Rattle.am_office_report.specs.Tables.{accepted_state, accepted_with, heard_with, messages_in, state_after, entry_after, fate_of_entry, known_of}
 use Rattle.am_office_report.specs.Tables.{known_after, news_in}
-use Rattle.am_office.proofs.Causes.{fate_by_first}
+use Rattle.am_office_entries.proofs.Causes.{fate_by_first}
 use Rattle.am_office_report.proofs.Flat.{match_map}
 use Rattle.am_office_report.proofs.Knowing.{known_append}
 

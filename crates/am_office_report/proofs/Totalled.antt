@@ -2,7 +2,7 @@
 use Rattle.std.proofs.Common.{◌≡◌, ℕ, ◌+◌, ◌^◌, ◌<◌, Bool, true, false, List, refl, sym, ap, ◌∙◌, length, take, get_or, arith}
 use Rattle.std.proofs.lemmas.List.{length-take-le}
 use Rattle.std.proofs.lemmas.List.Sums.{count_by-le-length, count_by_more_no, count_by_more_yes}
-use Rattle.am_office.specs.declared.endings.Fate.{Fate}
+use Rattle.am_office_entries.specs.declared.endings.Fate.{Fate}
 use Rattle.am_office_report.specs.declared.messages.MessageFate.{MessageFate}
 use Rattle.am_office_report.specs.declared.totals.Totals.{Totals}
 use Rattle.am_office_report.specs.Report.{number, has_run, was_returned, is_unknown, is_unknown_but_ran, is_pending}

@@ -8,20 +8,20 @@ use Rattle.am_names.specs.declared.Serial.{Serial}
 use Rattle.am_names.specs.declared.MsgKind.{MsgKind}
 use Rattle.am_names.specs.declared.Message.{Message}
 use Rattle.am_names.specs.Names.{same_end, serial_order}
-use Rattle.am_office.specs.declared.Call.TheVariants as Calls
-use Rattle.am_office.specs.declared.Event.{Event}
-use Rattle.am_office.specs.declared.Event.TheVariants as Events
-use Rattle.am_office.specs.declared.Outcome.{Outcome}
-use Rattle.am_office.specs.declared.Outcome.TheVariants as Out
-use Rattle.am_office.specs.declared.Entry.{Entry}
-use Rattle.am_office.specs.declared.endings.Fate.{Fate}
-use Rattle.am_office.specs.declared.endings.Fate.TheVariants as Fates
+use Rattle.am_office_entries.specs.declared.Call.TheVariants as Calls
+use Rattle.am_office_entries.specs.declared.Event.{Event}
+use Rattle.am_office_entries.specs.declared.Event.TheVariants as Events
+use Rattle.am_office_entries.specs.declared.Outcome.{Outcome}
+use Rattle.am_office_entries.specs.declared.Outcome.TheVariants as Out
+use Rattle.am_office_entries.specs.declared.Entry.{Entry}
+use Rattle.am_office_entries.specs.declared.endings.Fate.{Fate}
+use Rattle.am_office_entries.specs.declared.endings.Fate.TheVariants as Fates
 use Rattle.am_office_report.specs.declared.runs.Run.{Run}
 use Rattle.am_office_report.specs.declared.runs.Run.TheVariants as Runs
 use Rattle.am_office_report.specs.declared.messages.MessageFate.{MessageFate}
-use Rattle.am_office.specs.Entries.{accepted_of}
-use Rattle.am_office.specs.Fates.{fate_of_accepted}
-use Rattle.am_office_lines.specs.Lines.{line_of}
+use Rattle.am_office_entries.specs.Entries.{accepted_of}
+use Rattle.am_office_entries.specs.Fates.{fate_of_accepted}
+use Rattle.am_office_text.specs.EntryLines.Lines.{line_of}
 use Rattle.am_office_text.specs.Words as words
 use Rattle.am_office_text.specs.Words.{Word, line, serial}
 

@@ -8,25 +8,25 @@ use Rattle.am_names.specs.declared.Serial.{Serial}
 use Rattle.am_names.specs.declared.MsgKind.{MsgKind}
 use Rattle.am_names.specs.declared.Message.{Message}
 use Rattle.am_names.specs.Names.{same_serial, serial_order}
-use Rattle.am_office.specs.declared.Call.TheVariants as Calls
-use Rattle.am_office.specs.declared.Event.{Event}
-use Rattle.am_office.specs.declared.Event.TheVariants as Events
-use Rattle.am_office.specs.declared.Received.{Received}
-use Rattle.am_office.specs.declared.Received.TheVariants as Got
-use Rattle.am_office.specs.declared.Outcome.{Outcome}
-use Rattle.am_office.specs.declared.Outcome.TheVariants as Out
-use Rattle.am_office.specs.declared.Entry.{Entry}
+use Rattle.am_office_entries.specs.declared.Call.TheVariants as Calls
+use Rattle.am_office_entries.specs.declared.Event.{Event}
+use Rattle.am_office_entries.specs.declared.Event.TheVariants as Events
+use Rattle.am_office_entries.specs.declared.Received.{Received}
+use Rattle.am_office_entries.specs.declared.Received.TheVariants as Got
+use Rattle.am_office_entries.specs.declared.Outcome.{Outcome}
+use Rattle.am_office_entries.specs.declared.Outcome.TheVariants as Out
+use Rattle.am_office_entries.specs.declared.Entry.{Entry}
 use Rattle.am_office_report.specs.declared.runs.Run.{Run}
 use Rattle.am_office_report.specs.declared.known.Known.{Known}
 use Rattle.am_office_report.specs.declared.known.News.{News}
 use Rattle.am_office_report.specs.declared.known.News.TheVariants as Latest
 use Rattle.am_office_report.specs.declared.messages.MessageFate.{MessageFate}
 use Rattle.am_office_report.specs.declared.sources.MessageState.{MessageState}
-use Rattle.am_office.specs.Fates.{fate_by, causes_of, is_unknown, is_run}
+use Rattle.am_office_entries.specs.Fates.{fate_by, causes_of, is_unknown, is_run}
 use Rattle.am_office_report.specs.Report.{runs_at}
 use Rattle.am_office_report.specs.Report as texts
 use Rattle.am_office_report.specs.declared.totals.Totals.{Totals}
-use Rattle.am_office.specs.declared.endings.Fate.{Fate}
+use Rattle.am_office_entries.specs.declared.endings.Fate.{Fate}
 
 -- the lists of runs after one more run
 abbrev pub with_run : List (List Run) → Option (EndpointId × Run) → List (List Run)

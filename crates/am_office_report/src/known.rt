@@ -4,7 +4,7 @@ ghost use Rattle.std.specs.Prelude.{◌≡◌};
 ghost use Rattle.am_office_report.specs.Tables as tables;
 
 use am_names::{Cause, Serial};
-use am_office::{Entry, Fate, return_of, run_of, unknown_of};
+use am_office_entries::{Entry, Fate, return_of, run_of, unknown_of};
 
 /// What an entry says of a message's fate.
 #[derive(Clone, Copy)]
@@ -24,7 +24,7 @@ pub(crate) struct Known {
 
 impl Known {
     ghost use Rattle.std.specs.Prelude.{◌≡◌, option_to_list};
-    ghost use Rattle.am_office.specs.Fates as fates;
+    ghost use Rattle.am_office_entries.specs.Fates as fates;
     ghost use Rattle.am_office_report.specs.Tables.{nothing_known, known_with};
 
     /// What is known of a message of which no entry says anything.

@@ -6,8 +6,8 @@ ghost use Rattle.std.specs.List.Sorted.{IsStrictlySortedBy};
 ghost use Rattle.std.specs.Map.{keys_of};
 ghost use Rattle.am_names.specs.declared.Serial.{Serial};
 ghost use Rattle.am_names.specs.Names.{same_serial, serial_order};
-ghost use Rattle.am_office.specs.declared.Entry.{Entry};
-ghost use Rattle.am_office.specs.Fates.{is_accepted};
+ghost use Rattle.am_office_entries.specs.declared.Entry.{Entry};
+ghost use Rattle.am_office_entries.specs.Fates.{is_accepted};
 ghost use Rattle.am_office_report.specs.Report.{SummaryIsOfReport, listed};
 
 /// The messages that a report lists are those that the journal accepts, each once, in ascending order of source and

@@ -1,14 +1,14 @@
 //! The accepted messages of a journal, in order, with their fates.
 
 ghost use Rattle.std.specs.Prelude.{◌≡◌, ◌++◌, [], OnOk, IfOk, map, replicate};
-ghost use Rattle.am_office_journal.specs.Behind.{entries_behind};
+ghost use Rattle.am_office_entries.specs.Logged.Behind.{entries_behind};
 ghost use Rattle.am_office_report.specs.Report as report;
 ghost use Rattle.am_office_report.specs.Tables.{source_entry, fate_of_entry};
 
 use crate::known::{News, news_in};
 use crate::sources::{MessageState, SourceMessages};
 use am_names::{EndpointId, Message, MsgKind, Serial};
-use am_office::{Entry, Fate, accepted_of};
+use am_office_entries::{Entry, Fate, accepted_of};
 use std::alloc::{AllocError, Global};
 use std::marker::Model;
 
@@ -74,8 +74,8 @@ impl MessageTable {
     ghost use Rattle.std.specs.Prelude.{◌≡◌, List, [], OnOk, IfOk, map};
     ghost use Rattle.std.specs.BTreeMap.{insert_entry};
     ghost use Rattle.am_names.specs.Names.{serial_order};
-    ghost use Rattle.am_office.specs.declared.Entry.{Entry};
-    ghost use Rattle.am_office_journal.specs.Behind.{entries_behind};
+    ghost use Rattle.am_office_entries.specs.declared.Entry.{Entry};
+    ghost use Rattle.am_office_entries.specs.Logged.Behind.{entries_behind};
     ghost use Rattle.am_office_report.specs.Report.{listed};
     ghost use Rattle.am_office_report.specs.Tables.{messages_in, accepted_state, accepted_with, heard_with, entry_after, state_after, fate_of_entry};
 
@@ -117,7 +117,7 @@ impl MessageTable {
     }
 
     // The accepted messages of a journal, of whose fates nothing is known yet.
-    #[tactic(auto, using(am_office_journal::proofs::Entries::length_behind))]
+    #[tactic(auto, using(am_office_entries::proofs::Entries::length_behind))]
     fn of(alloc: Global, entries: &[&Entry]) -> Result<Self, AllocError>
         ensures { IfOk result (λ table. messages_in table ≡ map (state_after []) (listed (entries_behind entries.now))) }
     {
@@ -129,7 +129,7 @@ impl MessageTable {
     }
 
     // Notes what a journal's entries say of the messages' fates.
-    #[tactic(auto, using(am_office_journal::proofs::Entries::length_behind))]
+    #[tactic(auto, using(am_office_entries::proofs::Entries::length_behind))]
     fn learn_all(&mut self, entries: &[&Entry])
         ensures { (journal : List Entry) → messages_in self.old ≡ map (state_after []) (listed journal) → messages_in self.new ≡ map (state_after (entries_behind entries.now)) (listed journal) }
     {

@@ -3,12 +3,12 @@
 ghost use Rattle.std.specs.Prelude.{◌≡◌, List, [], ◌∷◌, ◌++◌, OnOk, IfOk, codes};
 ghost use Rattle.std.specs.Fmt.{decimal};
 ghost use Rattle.std.specs.List.{flat_map};
-ghost use Rattle.am_office.specs.declared.Entry.{Entry};
-ghost use Rattle.am_office_journal.specs.Behind.{entries_behind};
+ghost use Rattle.am_office_entries.specs.declared.Entry.{Entry};
+ghost use Rattle.am_office_entries.specs.Logged.Behind.{entries_behind};
 ghost use Rattle.am_office_text.specs.Pieces.{Extends};
 ghost use Rattle.am_office_text.specs.Words as printed;
 ghost use Rattle.am_office_text.specs.Words.{line, spaced};
-ghost use Rattle.am_office_lines.specs.Lines.{line_of};
+ghost use Rattle.am_office_text.specs.EntryLines.Lines.{line_of};
 ghost use Rattle.am_office_report.specs.Report as text;
 ghost use Rattle.am_office_report.specs.Tables.{AreRuns};
 
@@ -16,17 +16,17 @@ use crate::messages::{MessageFate, told};
 use crate::runs::{Run, RunTable};
 use crate::totals::totals_of;
 use am_names::{EndpointId, Serial, Words};
-use am_office::{Entry, Fate, NoMemory};
-use am_office_journal::LoggedJournal;
-use am_office_lines::entry_line;
+use am_office_entries::logged::LoggedJournal;
+use am_office_entries::{Entry, Fate, NoMemory};
 use am_office_text::Piece::{Number, Text};
+use am_office_text::entry_lines::entry_line;
 use am_office_text::{
     Piece, cause_word, kind_word, put_end, put_line, put_numbers, put_spaced, put_word, small,
     why_word,
 };
 use std::alloc::{AllocError, Global};
 
-#[tactic(auto, using(std::proofs::Common::append_assoc, am_office_journal::proofs::Entries::length_behind, crate::proofs::Printing::lines_next))]
+#[tactic(auto, using(std::proofs::Common::append_assoc, am_office_entries::proofs::Entries::length_behind, crate::proofs::Printing::lines_next))]
 fn put_entries(out: &mut Vec<u8>, entries: &[&Entry]) -> Result<(), AllocError>
     ensures { OnOk result (out.new.items ≡ out.old.items ++ flat_map line_of (entries_behind entries.now)) }
 {
@@ -39,7 +39,7 @@ fn put_entries(out: &mut Vec<u8>, entries: &[&Entry]) -> Result<(), AllocError>
     Ok(())
 }
 
-#[tactic(auto, using(am_office_journal::proofs::Entries::length_behind), unfolding(crate::specs::Report::entries_line))]
+#[tactic(auto, using(am_office_entries::proofs::Entries::length_behind), unfolding(crate::specs::Report::entries_line))]
 fn put_count(out: &mut Vec<u8>, entries: &[&Entry]) -> Result<(), AllocError>
     ensures { OnOk result (out.new.items ≡ out.old.items ++ text.entries_line (entries_behind entries.now)) }
 {

@@ -4,7 +4,7 @@ ghost use Rattle.std.specs.Prelude.{◌≡◌, [], IfOk, replicate};
 ghost use Rattle.am_office_report.specs.Report.{run_in};
 
 use am_names::{EndpointId, Serial, Why, Words};
-use am_office::{Call, Entry, Event, Outcome};
+use am_office_entries::{Call, Entry, Event, Outcome};
 use std::alloc::{AllocError, Global};
 use std::marker::Model;
 
@@ -124,8 +124,8 @@ fn empty_lists(alloc: Global) -> Result<Vec<RunList>, AllocError>
 
 impl RunTable {
     ghost use Rattle.std.specs.Prelude.{◌≡◌, List, [], OnOk, IfOk, replicate};
-    ghost use Rattle.am_office.specs.declared.Entry.{Entry};
-    ghost use Rattle.am_office_journal.specs.Behind.{entries_behind};
+    ghost use Rattle.am_office_entries.specs.declared.Entry.{Entry};
+    ghost use Rattle.am_office_entries.specs.Logged.Behind.{entries_behind};
     ghost use Rattle.am_office_report.specs.Report.{run_in, runs_at};
     ghost use Rattle.am_office_report.specs.Tables.{with_run, AreRuns};
 
@@ -146,7 +146,7 @@ impl RunTable {
     }
 
     /// The runs of a journal.
-    #[tactic(auto, using(am_office_journal::proofs::Entries::length_behind))]
+    #[tactic(auto, using(am_office_entries::proofs::Entries::length_behind))]
     pub(crate) fn of(alloc: Global, entries: &[&Entry]) -> Result<Self, AllocError>
         ensures { IfOk result (λ table. AreRuns table (entries_behind entries.now)) }
     {

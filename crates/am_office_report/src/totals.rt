@@ -4,7 +4,7 @@ ghost use Rattle.std.specs.Prelude.{◌≡◌};
 ghost use Rattle.am_office_report.specs.Tables.{HasRoom, no_totals, totals_in, with_fate};
 
 use crate::messages::MessageFate;
-use am_office::Fate;
+use am_office_entries::Fate;
 
 /// How many messages have each fate.
 #[derive(Clone, Copy)]

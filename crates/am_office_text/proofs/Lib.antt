@@ -1,2 +1,3 @@
 pub mod Extended
 mod Digits
+mod Appended

@@ -1,6 +1,7 @@
 //! The words and lines of the printed texts.
 #![tactic(auto)]
 
+pub mod entry_lines;
 mod pieces;
 mod words;
 

@@ -8,6 +8,7 @@
 #![tactic(auto)]
 
 mod ending;
+pub mod moments;
 mod opening;
 mod stays;
 mod writing;

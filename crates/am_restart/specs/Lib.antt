@@ -6,3 +6,4 @@ pub mod History
 pub mod Fates
 pub mod Bounds
 pub mod Rows
+pub mod Laws

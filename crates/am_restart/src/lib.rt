@@ -5,6 +5,7 @@
 mod ends;
 mod events;
 mod fates;
+pub mod laws;
 mod moves;
 mod packets;
 mod receiving;

@@ -11,7 +11,7 @@ use Rattle.std.proofs.lemmas.List.Sums.{sum_by-append, sum_by-cons}
 use Rattle.std.proofs.lemmas.Bool.{eqb-true, eq-eqb}
 use Rattle.am_lemmas.proofs.Lists.{all_pairs_grow, find_passes}
 use Rattle.am_lemmas.proofs.Options.{option_or-None}
-use Rattle.am_scenario_laws.proofs.Growing.{apart}
+use Rattle.am_scenario.proofs.Growing.{apart}
 
 abbrev pub has_key : {A : Type 0} → (A → ℕ) → ℕ → A → Bool
 has_key key n a = key a == n

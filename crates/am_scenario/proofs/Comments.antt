@@ -1,7 +1,7 @@
 -- Lines that begin with #.
 use Rattle.std.proofs.Common.{◌≡◌, ℕ, true, false, eqb, List, [], ◌∷◌, get_or, Ok, refl}
 use Rattle.am_scenario_types.specs.declared.parts.Form.{Form}
-use Rattle.am_scenario_draft.specs.Said.{Said}
+use Rattle.am_scenario.specs.Drafts.Said.{Said}
 use Rattle.am_scenario.specs.Order.{after_named, after_words}
 
 -- what a line says that is a comment, one without words, and one that begins with another word

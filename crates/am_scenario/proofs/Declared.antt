@@ -1,7 +1,7 @@
 -- One declared number more.
 use Rattle.std.proofs.Common.{◌≡◌, ℕ, ◌+◌, [], ◌++◌, refl, add-one}
 use Rattle.std.specs.Option.{option_to_list}
-use Rattle.am_scenario_draft.specs.Said.{Said, end_of, thread_of}
+use Rattle.am_scenario.specs.Drafts.Said.{Said, end_of, thread_of}
 use Rattle.am_scenario.specs.Grammar.{ends_below, threads_below}
 
 pub ends_none : (said : Said) → ends_below said 0 ≡ []

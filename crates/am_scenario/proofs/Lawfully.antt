@@ -14,10 +14,10 @@ use Rattle.am_lexer.specs.Fields.{or_else}
 use Rattle.am_lexer.specs.Lines.{line_after}
 use Rattle.am_names.specs.declared.EndpointId.{EndpointId}
 use Rattle.am_names.specs.declared.NodeId.{NodeId}
-use Rattle.am_office.specs.declared.Call.{Call}
-use Rattle.am_office.specs.declared.Call.TheVariants.{Request, Poll, SetTag, Map, Unmap, SetHandler, GiveUp, Close, Test}
-use Rattle.am_office.specs.declared.Event.{Event}
-use Rattle.am_office.specs.declared.Event.TheVariants as event
+use Rattle.am_office_entries.specs.declared.Call.{Call}
+use Rattle.am_office_entries.specs.declared.Call.TheVariants.{Request, Poll, SetTag, Map, Unmap, SetHandler, GiveUp, Close, Test}
+use Rattle.am_office_entries.specs.declared.Event.{Event}
+use Rattle.am_office_entries.specs.declared.Event.TheVariants as event
 use Rattle.am_bundle.specs.Lists.{BundleLists}
 use Rattle.am_scenario_types.specs.declared.parts.Form.{Form}
 use Rattle.am_scenario_types.specs.declared.parts.Form.TheVariants.{Step, Run}
@@ -31,20 +31,20 @@ use Rattle.am_scenario_types.specs.Lists.{ScenarioLists}
 use Rattle.am_scenario_types.specs.Lawful.{IsWithin, node_of, thread_node, IsDeclared, IsOn, HasLawfulSettings, IsLawfulEnd, IsLawfulBundle, IsLawfulThread}
 use Rattle.am_scenario_types.specs.Lawful.{IsLawfulPlanLine, IsLawfulFaultLine, IsLawfulCall, IsLawfulScriptCall, IsLawfulEvent, least_credits, IsLawful}
 use Rattle.am_scenario_types.specs.Lawful.{IsOfForm}
-use Rattle.am_scenario_draft.specs.declared.settings.Version.{Version}
-use Rattle.am_scenario_draft.specs.declared.settings.Version.TheVariants.{One, Two}
-use Rattle.am_scenario_draft.specs.declared.settings.Settings.{Settings}
-use Rattle.am_scenario_draft.specs.Said.{Said, with_line, nothing, node_count, frame_count, channel_count, end_of, thread_of}
-use Rattle.am_scenario_lines.specs.declared.head.Head.{Head}
-use Rattle.am_scenario_lines.specs.Heads.{head_of, section_of, is_of_form}
-use Rattle.am_scenario_lines.specs.Calls.{least_share}
-use Rattle.am_scenario_lines.specs.Lines.{words_say}
-use Rattle.am_scenario_laws.specs.LineLaws.{network_of, section_said, fits_form, IsNetworkOf, IsLawfulLine}
-use Rattle.am_scenario_laws.specs.Sound.{SettingsAreSound, EndsAreSound, ThreadsAreSound, IsSound, HasForm}
-use Rattle.am_scenario_laws.proofs.Meets.{Meets, refuses, gives, bind, test, anything, found}
-use Rattle.am_scenario_laws.proofs.Calling.{lines_are_lawful}
-use Rattle.am_scenario_laws.proofs.Words.{on_is_declared}
-use Rattle.am_scenario_laws.proofs.Growing.{stays_sound, begins_sound}
+use Rattle.am_scenario.specs.declared.drafts.settings.Version.{Version}
+use Rattle.am_scenario.specs.declared.drafts.settings.Version.TheVariants.{One, Two}
+use Rattle.am_scenario.specs.declared.drafts.settings.Settings.{Settings}
+use Rattle.am_scenario.specs.Drafts.Said.{Said, with_line, nothing, node_count, frame_count, channel_count, end_of, thread_of}
+use Rattle.am_scenario.specs.declared.lines.head.Head.{Head}
+use Rattle.am_scenario.specs.Lines.Heads.{head_of, section_of, is_of_form}
+use Rattle.am_scenario.specs.Lines.Calls.{least_share}
+use Rattle.am_scenario.specs.Lines.Lines.{words_say}
+use Rattle.am_scenario.specs.LineLaws.LineLaws.{network_of, section_said, fits_form, IsNetworkOf, IsLawfulLine}
+use Rattle.am_scenario.specs.LineLaws.Sound.{SettingsAreSound, EndsAreSound, ThreadsAreSound, IsSound, HasForm}
+use Rattle.am_scenario.proofs.Meets.{Meets, refuses, gives, bind, test, anything, found}
+use Rattle.am_scenario.proofs.Calling.{lines_are_lawful}
+use Rattle.am_scenario.proofs.Words.{on_is_declared}
+use Rattle.am_scenario.proofs.Growing.{stays_sound, begins_sound}
 use Rattle.am_scenario.specs.Order.{placed, after_words, after_line}
 use Rattle.am_scenario.specs.Grammar.{ends_below, threads_below, tries_of, bounces_of, pool_of, whole, on_line, read_from, grammar}
 use Rattle.am_scenario.specs.Laws.{SpellsLawful, ExactlyOne}

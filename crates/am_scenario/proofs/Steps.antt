@@ -7,13 +7,13 @@ use Rattle.am_lexer.specs.Text.{is_text_line}
 use Rattle.am_scenario_types.specs.declared.parts.Form.{Form}
 use Rattle.am_scenario_types.specs.declared.faults.ScenarioFault.{ScenarioFault}
 use Rattle.am_scenario_types.specs.Lists.{ScenarioLists}
-use Rattle.am_scenario_draft.specs.declared.line.LineFault.{LineFault}
-use Rattle.am_scenario_draft.specs.declared.line.LineFault.TheVariants as faults
-use Rattle.am_scenario_draft.specs.Said.{Said}
+use Rattle.am_scenario.specs.declared.drafts.line.LineFault.{LineFault}
+use Rattle.am_scenario.specs.declared.drafts.line.LineFault.TheVariants as faults
+use Rattle.am_scenario.specs.Drafts.Said.{Said}
 use Rattle.am_scenario.specs.Order.{after_line}
 use Rattle.am_scenario.specs.Grammar.{whole, read_from}
 use Rattle.am_scenario.specs.Answers.{Changes, Finishes, Answers}
-use Rattle.am_scenario_draft.specs.Faults.{at_line}
+use Rattle.am_scenario.specs.Drafts.Faults.{at_line}
 
 -- a line that was taken
 pub line_taken : (form : Form) (number : ℕ) (said next : Said) (line : List ℕ) (lines : List (List ℕ)) (all : Result ScenarioLists ScenarioFault)

@@ -5,9 +5,9 @@ use Rattle.am_scenario_types.specs.declared.faults.ScenarioFault.{ScenarioFault}
 use Rattle.am_scenario_types.specs.declared.faults.ReadFault.{ReadFault}
 use Rattle.am_scenario_types.specs.declared.faults.ReadFault.TheVariants.{Refused, NoMemory}
 use Rattle.am_scenario_types.specs.Lists.{ScenarioLists}
-use Rattle.am_scenario_draft.specs.declared.line.LineFault.{LineFault}
-use Rattle.am_scenario_draft.specs.declared.line.LineFault.TheVariants as faults
-use Rattle.am_scenario_draft.specs.Said.{Said}
+use Rattle.am_scenario.specs.declared.drafts.line.LineFault.{LineFault}
+use Rattle.am_scenario.specs.declared.drafts.line.LineFault.TheVariants as faults
+use Rattle.am_scenario.specs.Drafts.Said.{Said}
 
 -- what the code made of a line, unless memory ran out
 abbrev pub Changes : Result (Unit {0}) LineFault → Said → Result Said What → Type 0

@@ -11,10 +11,10 @@ use Rattle.am_scenario_types.specs.declared.parts.EndLine.{EndLine}
 use Rattle.am_scenario_types.specs.declared.parts.ThreadLine.{ThreadLine}
 use Rattle.am_scenario_types.specs.declared.faults.ScenarioFault.{ScenarioFault}
 use Rattle.am_scenario_types.specs.Lists.{ScenarioLists}
-use Rattle.am_scenario_draft.specs.declared.settings.Version.{Version}
-use Rattle.am_scenario_draft.specs.declared.settings.Settings.{Settings}
-use Rattle.am_scenario_draft.specs.Said.{Said, nothing, end_of, thread_of, frame_count, channel_count}
-use Rattle.am_scenario_lines.specs.Heads.{knows_pools}
+use Rattle.am_scenario.specs.declared.drafts.settings.Version.{Version}
+use Rattle.am_scenario.specs.declared.drafts.settings.Settings.{Settings}
+use Rattle.am_scenario.specs.Drafts.Said.{Said, nothing, end_of, thread_of, frame_count, channel_count}
+use Rattle.am_scenario.specs.Lines.Heads.{knows_pools}
 use Rattle.am_scenario.specs.Order.{after_line}
 
 -- the lines that declare the endpoints below a number, in ascending order

@@ -7,10 +7,10 @@ use Rattle.am_lexer.specs.declared.what.What.TheVariants.{UnknownWord, Missing, 
 use Rattle.am_lexer.specs.Text.{words_of, is_text_line}
 use Rattle.am_lexer.specs.Fields.{◌>>=◌, or_else}
 use Rattle.am_scenario_types.specs.declared.parts.Form.{Form}
-use Rattle.am_scenario_draft.specs.Said.{Said, with_line}
-use Rattle.am_scenario_lines.specs.declared.head.Head.{Head}
-use Rattle.am_scenario_lines.specs.Heads.{head_of, section_of, is_of_form}
-use Rattle.am_scenario_lines.specs.Lines.{words_say}
+use Rattle.am_scenario.specs.Drafts.Said.{Said, with_line}
+use Rattle.am_scenario.specs.declared.lines.head.Head.{Head}
+use Rattle.am_scenario.specs.Lines.Heads.{head_of, section_of, is_of_form}
+use Rattle.am_scenario.specs.Lines.Lines.{words_say}
 
 -- the refusals of a line whose first word is known, before its other words are read
 unfoldable pub placed : Form → Said → Head → Result Head What

@@ -1,12 +1,12 @@
 //! What all lines together have said.
 
 ghost use Rattle.std.specs.Prelude.{◌≡◌, IfOk};
-ghost use Rattle.am_scenario_draft.specs.Drafts.{said};
+ghost use Rattle.am_scenario.specs.Drafts.Drafts.{said};
 ghost use Rattle.am_scenario.specs.Grammar.{ends_below, threads_below, tries_of, bounces_of, pool_of, whole};
 ghost use Rattle.am_scenario.specs.Answers.{Finishes};
 
+use crate::drafts::{Draft, LineFault, Settings, Version};
 use am_lexer::What;
-use am_scenario_draft::{Draft, LineFault, Settings, Version};
 use am_scenario_types::{EndLine, Scenario, ThreadLine};
 use std::alloc::{AllocError, Global};
 

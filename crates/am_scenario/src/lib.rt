@@ -1,7 +1,10 @@
 //! The text of a scenario: the scenario that it spells, or its first fault.
 #![tactic(auto)]
 
+pub mod drafts;
 mod finish;
+pub mod line_laws;
+pub mod lines;
 mod order;
 mod reader;
 

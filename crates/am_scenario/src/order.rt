@@ -4,13 +4,13 @@ ghost use Rattle.std.specs.Prelude.{◌≡◌, ◌==◌, true};
 ghost use Rattle.std.specs.List.{slice_index};
 ghost use Rattle.am_lexer.specs.Text.{words_of, is_text_line};
 ghost use Rattle.am_lexer.specs.Fields.{Gives};
-ghost use Rattle.am_scenario_draft.specs.Drafts.{said};
+ghost use Rattle.am_scenario.specs.Drafts.Drafts.{said};
 ghost use Rattle.am_scenario.specs.Order.{placed, after_named, after_words, after_line};
 ghost use Rattle.am_scenario.specs.Answers.{Changes};
 
+use crate::drafts::{Draft, LineFault};
+use crate::lines::{Head, head_of, words_say};
 use am_lexer::{What, is_text, next_word};
-use am_scenario_draft::{Draft, LineFault};
-use am_scenario_lines::{Head, head_of, words_say};
 use am_scenario_types::Form;
 use std::alloc::Global;
 

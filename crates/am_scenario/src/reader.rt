@@ -6,10 +6,10 @@ ghost use Rattle.am_scenario.specs.Answers.{Answers};
 ghost use Rattle.am_scenario.specs.Laws.{ExactlyOne, SpellsLawful};
 ghost use Rattle.am_scenario_types.specs.Lawful.{IsLawful, IsOfForm};
 
+use crate::drafts::Draft;
 use crate::finish::finish;
 use crate::order::take_line;
 use am_lexer::{lines_are_text, next_line};
-use am_scenario_draft::Draft;
 use am_scenario_types::{Form, ReadFault, Scenario};
 use std::alloc::Global;
 

@@ -2,7 +2,7 @@
 use Rattle.std.proofs.Common.{◌≡◌, ℕ, ◌+◌, List, [], ◌∷◌, ◌++◌, refl, sym, ap, ◌∙◌, append_assoc, append-nil, add-one}
 use Rattle.rand_pcg.specs.Lcg.{Lcg}
 use Rattle.rand_pcg.specs.Pcg.{pcg32}
-use Rattle.am_office.specs.declared.Call.TheVariants.{Poll}
+use Rattle.am_office_entries.specs.declared.Call.TheVariants.{Poll}
 use Rattle.am_scenario_types.specs.declared.parts.ScriptCall.{ScriptCall}
 use Rattle.am_scenario_generator.specs.Words.{word, steps, after_threads}
 use Rattle.am_scenario_generator.specs.Calls.{call_on, polls, drawn_call, drawn_calls, thread_calls, script_below}

@@ -18,9 +18,9 @@ use Rattle.am_lemmas.proofs.Lists.{none_passes, all_pairs_none, all_pairs_grow}
 use Rattle.am_lemmas.proofs.Numbered.{lines_more, lines_all, keys_rise, key_finds}
 use Rattle.am_names.specs.declared.EndpointId.{EndpointId}
 use Rattle.am_names.specs.declared.NodeId.{NodeId}
-use Rattle.am_office.specs.declared.Call.{Call}
-use Rattle.am_office.specs.declared.Call.TheVariants.{Request, Poll, SetHandler}
-use Rattle.am_office.specs.declared.HandlerKind.TheVariants.{Note, Echo, Add}
+use Rattle.am_office_entries.specs.declared.Call.{Call}
+use Rattle.am_office_entries.specs.declared.Call.TheVariants.{Request, Poll, SetHandler}
+use Rattle.am_office_entries.specs.declared.HandlerKind.TheVariants.{Note, Echo, Add}
 use Rattle.am_scenario_plan.specs.declared.plan.PlanLine.{PlanLine}
 use Rattle.am_scenario_plan.specs.declared.plan.LinkFault.TheVariants.{Lose, Repeat, Late}
 use Rattle.am_scenario_types.specs.declared.parts.Network.TheVariants.{Packet}

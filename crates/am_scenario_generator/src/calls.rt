@@ -5,7 +5,7 @@ ghost use Rattle.am_scenario_generator.specs.Words.{steps, after_threads};
 ghost use Rattle.am_scenario_generator.specs.Calls.{call_on, map_to, greeting, greetings, polls, opening, drawn_end, drawn_call, drawn_calls, thread_calls, script_below};
 
 use am_names::{EndpointId, Tag, Words};
-use am_office::{Call, HandlerKind};
+use am_office_entries::{Call, HandlerKind};
 use am_scenario_types::ScriptCall;
 use rand_core::utils::NextWord;
 use rand_pcg::Lcg64Xsh32;

@@ -1,5 +1,5 @@
 use am_names::{EndpointId, NodeId, Tag};
-use am_office::{Call, Event};
+use am_office_entries::{Call, Event};
 
 /// What a scenario is written for.
 #[derive(Clone, Copy, PartialEq, Eq, Debug)]

@@ -6,7 +6,7 @@ use Rattle.std.specs.List.{flat_map, range_with_len}
 use Rattle.std.proofs.lemmas.List.{append_assoc, append-nil, length-drop, take_min}
 use Rattle.std.proofs.lemmas.Grind.{flat_map-append}
 use Rattle.std.proofs.lemmas.List.FromFn.{map-range_with_len_more, length-map-range_with_len}
-use Rattle.am_office.specs.declared.Entry.{Entry}
+use Rattle.am_office_entries.specs.declared.Entry.{Entry}
 use Rattle.am_names.specs.declared.Words.{Words}
 use Rattle.am_segment_pieces.specs.declared.parts.Piece.{Piece}
 use Rattle.am_segment_pieces.specs.declared.segment.SegmentLine.{SegmentLine}

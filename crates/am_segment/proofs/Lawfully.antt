@@ -14,8 +14,8 @@ use Rattle.am_lexer.specs.Fields.{or_else, word_at, number_at, within, ended}
 use Rattle.am_lexer.specs.Lines.{line_after}
 use Rattle.am_scenario_types.specs.declared.faults.ScenarioFault.{ScenarioFault}
 use Rattle.am_scenario.specs.Grammar.{on_line}
-use Rattle.am_scenario_laws.proofs.Meets.{Meets, refuses, gives, bind, test, anything, found}
-use Rattle.am_scenario_laws.proofs.Words.{is_within}
+use Rattle.am_scenario.proofs.Meets.{Meets, refuses, gives, bind, test, anything, found}
+use Rattle.am_scenario.proofs.Words.{is_within}
 use Rattle.am_scenario.proofs.Below.{found_holds}
 use Rattle.am_names.specs.declared.EndpointId.{EndpointId}
 use Rattle.am_segment_pieces.specs.declared.segment.SegmentLine.{SegmentLine}

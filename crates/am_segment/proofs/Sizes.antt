@@ -3,7 +3,7 @@ use Rattle.std.proofs.Common.{ℕ, ◌≤◌, List, Result, Ok, Err}
 use Rattle.std.specs.Prelude.{IfOk}
 use Rattle.am_lexer.specs.declared.what.What.{What}
 use Rattle.am_lexer.specs.Fields.{Gives, within}
-use Rattle.am_scenario_laws.proofs.Words.{is_within}
+use Rattle.am_scenario.proofs.Words.{is_within}
 
 pub size_small : {R : Type 0} (view : R → ℕ × List (List ℕ)) (read : Result R What) (words : List (List ℕ)) → Gives view read (within 1 65_536 words) →
     IfOk read (λ (found : R). (view found).0 ≤ 65_536)

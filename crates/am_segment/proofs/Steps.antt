@@ -2,9 +2,9 @@
 use Rattle.std.proofs.Common.{◌≡◌, ℕ, List, [], ◌∷◌, Result, Ok, Err, refl, sym, ◌∙◌}
 use Rattle.am_lexer.specs.Lines.{line_after}
 use Rattle.am_scenario_types.specs.declared.faults.ScenarioFault.{ScenarioFault}
-use Rattle.am_scenario_draft.specs.declared.line.LineFault.{LineFault}
-use Rattle.am_scenario_draft.specs.declared.line.LineFault.TheVariants as faults
-use Rattle.am_scenario_draft.specs.Faults.{at_line}
+use Rattle.am_scenario.specs.declared.drafts.line.LineFault.{LineFault}
+use Rattle.am_scenario.specs.declared.drafts.line.LineFault.TheVariants as faults
+use Rattle.am_scenario.specs.Drafts.Faults.{at_line}
 use Rattle.am_segment.specs.Lists.{ExpandedLists}
 use Rattle.am_segment.specs.Laid.{Laid}
 use Rattle.am_segment.specs.Expansion.{after_line, expand_from, expanded_of, Changes, Answers}

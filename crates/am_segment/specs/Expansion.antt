@@ -6,8 +6,8 @@ use Rattle.am_lexer.specs.Text.{lines_of, words_of, is_text_line}
 use Rattle.am_scenario_types.specs.declared.faults.ScenarioFault.{ScenarioFault}
 use Rattle.am_scenario_types.specs.declared.faults.ReadFault.{ReadFault}
 use Rattle.am_scenario_types.specs.declared.faults.ReadFault.TheVariants.{Refused, NoMemory}
-use Rattle.am_scenario_draft.specs.declared.line.LineFault.{LineFault}
-use Rattle.am_scenario_draft.specs.declared.line.LineFault.TheVariants as faults
+use Rattle.am_scenario.specs.declared.drafts.line.LineFault.{LineFault}
+use Rattle.am_scenario.specs.declared.drafts.line.LineFault.TheVariants as faults
 use Rattle.am_segment_pieces.specs.Blocks.{piece_count}
 use Rattle.am_scenario.specs.Grammar.{on_line}
 use Rattle.am_segment.specs.declared.own.Own.{Own}

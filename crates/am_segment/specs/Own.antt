@@ -2,9 +2,9 @@
 use Rattle.std.specs.Prelude.{ℕ, Bool, false, ◌==◌, List, [], ◌∷◌, codes, if◌then◌else◌, Option, Some, None}
 use Rattle.std.specs.Str.{bytes_eq}
 use Rattle.am_lexer.specs.Text.{number_of}
-use Rattle.am_scenario_lines.specs.declared.head.Head.{Head}
-use Rattle.am_scenario_lines.specs.declared.head.Head.TheVariants as head
-use Rattle.am_scenario_lines.specs.Heads.{head_of, section_of}
+use Rattle.am_scenario.specs.declared.lines.head.Head.{Head}
+use Rattle.am_scenario.specs.declared.lines.head.Head.TheVariants as head
+use Rattle.am_scenario.specs.Lines.Heads.{head_of, section_of}
 use Rattle.am_segment.specs.declared.own.Own.{Own}
 use Rattle.am_segment.specs.declared.own.Own.TheVariants as own
 

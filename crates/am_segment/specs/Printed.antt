@@ -2,7 +2,7 @@
 use Rattle.std.specs.Prelude.{ℕ, zero, suc, ◌+◌, ◌*◌, ◌/◌, List, [], ◌∷◌, ◌++◌, codes, length, take, drop, find, ◌==◌, Option, Some, None}
 use Rattle.std.specs.Fmt.{decimal}
 use Rattle.std.specs.List.{flat_map}
-use Rattle.am_office.specs.declared.Entry.{Entry}
+use Rattle.am_office_entries.specs.declared.Entry.{Entry}
 use Rattle.am_office_text.specs.Words.{line}
 use Rattle.am_segment_pieces.specs.declared.ran.TransferRan.{TransferRan}
 use Rattle.am_segment_pieces.specs.declared.segment.SegmentLine.{SegmentLine}

@@ -5,7 +5,7 @@ ghost use Rattle.am_lexer.specs.Text.{words_of};
 ghost use Rattle.am_segment.specs.Own.{declared_by, is_script, of_thread, own_of, thread_word};
 
 use am_lexer::{next_word, parse_number};
-use am_scenario_lines::{Head, head_of};
+use am_scenario::lines::{Head, head_of};
 
 /// The kinds of lines that a text with segments has beyond those of a scenario.
 #[derive(Clone, Copy)]

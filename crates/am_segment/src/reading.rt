@@ -12,7 +12,7 @@ use crate::own::{Own, declared_by, is_script, own_of};
 use crate::saying::{Sent, Served, segment_line, serve_line, transfer_line};
 use crate::texts::{put_ordinary, put_origins, put_serve, put_transfer};
 use am_lexer::{What, is_text, next_line};
-use am_scenario_draft::LineFault;
+use am_scenario::drafts::LineFault;
 use am_scenario_types::ReadFault;
 use am_segment_pieces::SegmentLine;
 use std::alloc::{AllocError, Global};

@@ -3,7 +3,7 @@
 ghost use Rattle.std.specs.Prelude.{◌≡◌, ◌≤◌, ◌+◌, ◌*◌, IfOk, nat_le};
 ghost use Rattle.am_lexer.specs.Text.{words_of};
 ghost use Rattle.am_lexer.specs.Fields.{Gives, within};
-ghost use Rattle.am_scenario_lines.specs.Answers.{Yields};
+ghost use Rattle.am_scenario.specs.Lines.Answers.{Yields};
 ghost use Rattle.am_segment_pieces.specs.Blocks.{piece_count};
 ghost use Rattle.am_segment.specs.Drafts.{laid};
 ghost use Rattle.am_segment.specs.Saying.{block_at, end_at, fresh, segment_at, segment_line, serve_line, transfer_line};
@@ -12,7 +12,7 @@ use crate::expansion::Expansion;
 use crate::hex::block_of;
 use am_lexer::{What, take_byte, take_end, take_number, take_u32, take_word};
 use am_names::EndpointId;
-use am_scenario_draft::LineFault;
+use am_scenario::drafts::LineFault;
 use am_segment_pieces::{SegmentLine, Transfer};
 use std::alloc::Global;
 

@@ -3,3 +3,4 @@ pub mod Pieces
 pub mod Blocks
 pub mod Segments
 pub mod Runs
+pub mod Laws

@@ -3,6 +3,7 @@
 
 mod bytes;
 mod decode;
+pub mod laws;
 mod parts;
 mod ran;
 mod segment;

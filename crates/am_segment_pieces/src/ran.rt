@@ -1,7 +1,7 @@
 //! Which pieces of the transfers ran.
 
 ghost use Rattle.std.specs.Prelude.{◌≡◌, ◌≤◌, ◌<◌, ◌+◌, ◌^◌, List, IfOk, if◌then◌else◌, length};
-ghost use Rattle.am_office.specs.declared.Entry.{Entry};
+ghost use Rattle.am_office_entries.specs.declared.Entry.{Entry};
 ghost use Rattle.am_segment_pieces.specs.Pieces.{words_of};
 ghost use Rattle.am_segment_pieces.specs.Segments.{has_run, ran_count, ran_from, ran_of, segment_of};
 ghost use Rattle.am_segment_pieces.specs.Runs.{TellsRuns, key_in, run_key};
@@ -10,7 +10,7 @@ use crate::parts::Piece;
 use crate::segment::SegmentLine;
 use crate::transfer::Transfer;
 use am_names::{EndpointId, Words};
-use am_office::{Call, Entry, Event, Journal, NoMemory, Outcome};
+use am_office_entries::{Call, Entry, Event, Journal, NoMemory, Outcome};
 use std::alloc::Global;
 use std::collections::HashSet;
 

@@ -6,7 +6,7 @@ ghost use Rattle.am_segment_pieces.specs.Segments.{after_write, byte_after, run_
 use crate::decode::piece;
 use crate::parts::Piece;
 use am_names::{EndpointId, Words};
-use am_office::{Call, Entry, Event, Journal, NoMemory, Outcome};
+use am_office_entries::{Call, Entry, Event, Journal, NoMemory, Outcome};
 use std::alloc::Global;
 
 /// A segment of an endpoint: the pieces that run one of its handlers are written there.

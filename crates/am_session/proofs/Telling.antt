@@ -11,7 +11,7 @@ use Rattle.am_restart.specs.declared.events.SessionEvent.{SessionEvent}
 use Rattle.am_restart.specs.History.{IsSession, IsOfEvents, EachAfter, MayFollow, after, entry_of, state_of}
 use Rattle.am_restart.specs.Moves.{failing, move_of}
 use Rattle.am_restart.specs.State.{SessionState, opening}
-use Rattle.am_restart_laws.proofs.Session.{laws, replayed_push}
+use Rattle.am_restart.proofs.Sessions.{laws, replayed_push}
 use Rattle.am_session.specs.declared.script.SessionStep.{SessionStep}
 use Rattle.am_session.specs.declared.script.SessionTextFault.{SessionTextFault}
 use Rattle.am_session.specs.declared.stops.Stop.{Stop}

@@ -3,7 +3,7 @@ use Rattle.std.specs.Prelude.{◌≡◌, ◌⊎◌, ◌↔◌, ℕ, List, length
 use Rattle.am_restart.specs.declared.events.SessionEntry.{SessionEntry}
 use Rattle.am_restart.specs.History.{IsSession, IsOfEvents, state_of}
 use Rattle.am_restart.specs.Moves.{failing}
-use Rattle.am_restart_laws.specs.Laws.{SessionLaws}
+use Rattle.am_restart.specs.Laws.Laws.{SessionLaws}
 use Rattle.am_session.specs.declared.output.SessionOutput.{SessionOutput}
 use Rattle.am_session.specs.declared.script.SessionStep.{SessionStep}
 use Rattle.am_session.specs.declared.script.SessionTextFault.{SessionTextFault}

@@ -18,7 +18,7 @@ use crate::listed::lists_of;
 use crate::made::body_of;
 use am_endpoint_body::Body;
 use am_names::EndpointId;
-use am_office::NoMemory;
+use am_office_entries::NoMemory;
 use am_swap_codec::BodyLists;
 pub use am_swap_device::{Look, MemorySwap, Swap, SwapFault};
 use std::alloc::Global;

@@ -3,7 +3,7 @@ ghost use Rattle.am_swap_codec.specs.Counts.{AreCounted};
 ghost use Rattle.std.specs.Prelude.{◌≡◌, [], IfOk};
 
 use am_endpoint_body::Body;
-use am_office::NoMemory;
+use am_office_entries::NoMemory;
 use am_swap_codec::BodyLists;
 use std::alloc::Global;
 

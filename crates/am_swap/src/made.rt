@@ -8,7 +8,7 @@ use am_endpoint_body::Body;
 use am_handlers::Handlers;
 use am_model::{Notice, Queued};
 use am_names::Message;
-use am_office::NoMemory;
+use am_office_entries::NoMemory;
 use am_swap_codec::BodyLists;
 use am_translate::Translate;
 use std::alloc::Global;

@@ -2,3 +2,5 @@ mod Shares
 mod Validity
 mod Decoding
 pub mod InParts
+pub mod Turns
+mod Loop

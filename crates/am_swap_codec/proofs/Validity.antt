@@ -16,7 +16,7 @@ use Rattle.am_names.specs.Names.{is_request, is_request_kind, is_reply, same_end
 use Rattle.am_model.specs.declared.Awaited.{Awaited}
 use Rattle.am_model.specs.Calls.{excess, shares}
 use Rattle.am_model.specs.Endpoint.{Body, entry_at, is_arrived, requests_held, replies_held}
-use Rattle.am_office.specs.Entries.{is_serial}
+use Rattle.am_office_entries.specs.Entries.{is_serial}
 use Rattle.am_model.specs.Valid.{answers, has_arrived, is_handler_in_range, is_mapping_in_range, is_own_answer, is_own_flight, is_own_notice, is_own_request}
 use Rattle.am_model.specs.Valid.{is_received_here, is_record, rise, FitsPool}
 use Rattle.am_model.proofs.Names.{same_serial-is, same_serial-refl}

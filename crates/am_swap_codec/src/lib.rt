@@ -3,7 +3,8 @@
 
 mod lists;
 mod messages;
+pub mod pieces;
 mod valid;
 
-pub use am_swap_parts::ReadFault;
+pub use crate::pieces::ReadFault;
 pub use lists::BodyLists;

@@ -1,4 +1,4 @@
-ghost use Rattle.am_swap_parts.specs.Answers.{Finds, Gives};
+ghost use Rattle.am_swap_codec.specs.Pieces.Answers.{Finds, Gives};
 ghost use Rattle.am_swap_codec.specs.Counts.{AreCounted};
 ghost use Rattle.am_swap_codec.specs.Decodes.{Decodes};
 ghost use Rattle.am_swap_codec.specs.Parts.{arrivals_at, head_at, queues_at, tables_at};
@@ -7,13 +7,13 @@ ghost use Rattle.am_swap_image.specs.Range.{IsInRange};
 ghost use Rattle.am_swap_image.specs.Reading.{body_at, whole_body};
 ghost use Rattle.std.specs.Prelude.{◌≡◌, ◌++◌, IfOk, OnOk};
 
-use am_model::{Awaited, Mapping, Notice, Queued};
-use am_names::{EndpointId, Message, Tag};
-use am_office::{HandlerKind, NoMemory};
-use am_swap_parts::{
+use crate::pieces::{
     ReadFault, all_in_range, head_in_range, put_counted, put_each, put_long, put_magic, put_short,
     take_counted, take_long, take_magic, take_many, take_short,
 };
+use am_model::{Awaited, Mapping, Notice, Queued};
+use am_names::{EndpointId, Message, Tag};
+use am_office_entries::{HandlerKind, NoMemory};
 use std::alloc::{AllocError, Global};
 use std::marker::Model;
 

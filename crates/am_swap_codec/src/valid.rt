@@ -17,7 +17,7 @@ use am_model::{
     Awaited, Mapping, Notice, Queued, are_credits_in_range, is_kind_in_range, sum_of_shares,
 };
 use am_names::{EndpointId, Message};
-use am_office::HandlerKind;
+use am_office_entries::HandlerKind;
 
 fn is_mapping_in_range(pool: Option<u8>, mapping: Option<Mapping>) -> bool
     ensures { result ≡ is_mapping_in_range pool mapping }

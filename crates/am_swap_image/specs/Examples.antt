@@ -2,12 +2,12 @@
 use Rattle.std.specs.Prelude.{ℕ, None, List, [], ◌∷◌, replicate}
 use Rattle.am_names.specs.declared.MsgKind.TheVariants as Kind
 use Rattle.am_names.specs.declared.Message.{Message}
-use Rattle.am_office.specs.declared.Place.TheVariants.{Host}
-use Rattle.am_office.specs.declared.Actor.TheVariants.{Outside}
-use Rattle.am_office.specs.declared.Call.TheVariants as Calls
-use Rattle.am_office.specs.declared.Event.TheVariants as Events
-use Rattle.am_office.specs.declared.Outcome.TheVariants as Out
-use Rattle.am_office.specs.declared.Entry.{Entry}
+use Rattle.am_office_entries.specs.declared.Place.TheVariants.{Host}
+use Rattle.am_office_entries.specs.declared.Actor.TheVariants.{Outside}
+use Rattle.am_office_entries.specs.declared.Call.TheVariants as Calls
+use Rattle.am_office_entries.specs.declared.Event.TheVariants as Events
+use Rattle.am_office_entries.specs.declared.Outcome.TheVariants as Out
+use Rattle.am_office_entries.specs.declared.Entry.{Entry}
 use Rattle.am_model.specs.Endpoint.{Body, fresh}
 use Rattle.am_model.specs.Changes.{replay}
 use Rattle.am_model.specs.ThinPath.{zero_end}

@@ -3,8 +3,8 @@ use Rattle.std.specs.Prelude.{◌≡◌, ◌<◌, ◌^◌, Bool, true, ◌&&◌,
 use Rattle.std.specs.List.{list_all}
 use Rattle.am_names.specs.declared.Serial.{Serial}
 use Rattle.am_names.specs.declared.Message.{Message}
-use Rattle.am_office.specs.declared.HandlerKind.{HandlerKind}
-use Rattle.am_office.specs.declared.HandlerKind.TheVariants.{Note, Echo, Add}
+use Rattle.am_office_entries.specs.declared.HandlerKind.{HandlerKind}
+use Rattle.am_office_entries.specs.declared.HandlerKind.TheVariants.{Note, Echo, Add}
 use Rattle.am_model.specs.declared.Mapping.{Mapping}
 use Rattle.am_model.specs.declared.Awaited.{Awaited}
 use Rattle.am_model.specs.declared.Queued.{Queued}

@@ -4,7 +4,7 @@ use Rattle.std.specs.Prelude.{replicate, slice_set, count_by}
 use Rattle.std.specs.List.{list_all, list_any}
 use Rattle.std.specs.Option.{option_map}
 use Rattle.am_names.specs.declared.Serial.{Serial}
-use Rattle.am_office.specs.declared.Place.TheVariants.{Host}
+use Rattle.am_office_entries.specs.declared.Place.TheVariants.{Host}
 use Rattle.am_model.specs.declared.Awaited.{Awaited}
 use Rattle.am_model.specs.declared.Mapping.{Mapping}
 use Rattle.am_model.specs.Choice.{first_holding}

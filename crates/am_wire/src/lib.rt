@@ -3,6 +3,7 @@
 //! plan's.
 #![tactic(auto)]
 
+pub mod all_links;
 mod closing;
 mod receiving;
 mod sending;

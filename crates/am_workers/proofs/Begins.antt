@@ -9,15 +9,15 @@ use Rattle.atomic_table.specs.Seated.{TableId}
 use Rattle.atomic_table.specs.declared.shared.Seat.{Seat}
 use Rattle.am_names.specs.declared.EndpointId.{EndpointId}
 use Rattle.am_names.specs.declared.NodeId.{NodeId}
-use Rattle.am_office.specs.declared.Entry.{Entry}
-use Rattle.am_office.specs.declared.Place.{Place}
-use Rattle.am_office.specs.declared.Place.TheVariants.{Host, Disk}
+use Rattle.am_office_entries.specs.declared.Entry.{Entry}
+use Rattle.am_office_entries.specs.declared.Place.{Place}
+use Rattle.am_office_entries.specs.declared.Place.TheVariants.{Host, Disk}
 use Rattle.am_endpoint_body.specs.declared.settings.EndSettings.{EndSettings}
-use Rattle.am_workers_books.specs.Books.{stands_at}
-use Rattle.am_workers_books.specs.declared.EndBook.{EndBook}
+use Rattle.am_workers_laws.specs.Books.Books.{stands_at}
+use Rattle.am_workers_laws.specs.declared.books.EndBook.{EndBook}
 use Rattle.am_swap_device.specs.Memory.{Store, device_of}
-use Rattle.am_driver.specs.Views.{line_of}
-use Rattle.am_driver.specs.declared.EndView.{EndView}
+use Rattle.am_driver_moves.specs.Choice.Views.{line_of}
+use Rattle.am_driver_moves.specs.declared.choice.EndView.{EndView}
 use Rattle.am_endpoint.specs.View.{state_after, state_by}
 use Rattle.am_model_scripts.specs.Layout.{layout_of}
 use Rattle.am_model.specs.Changes.{replay}
@@ -27,20 +27,20 @@ use Rattle.am_model.specs.Layout.{AllAre, EndSetting, Layout, has_id, opening, o
 use Rattle.std.specs.List.{find}
 use Rattle.am_lemmas.proofs.Numbers.{zero_eqb_suc}
 use Rattle.am_lemmas.proofs.Lists.{maps_as_long}
-use Rattle.am_workers_phase.specs.Frames.{LiesAsMoved}
+use Rattle.am_workers_laws.specs.Phases.Frames.{LiesAsMoved}
 use Rattle.am_places.specs.Codes.{place_code}
 use Rattle.am_places.specs.Rule.{FrameFits, IsOutside, joined, known_at, nothing, tenure}
 use Rattle.am_places.specs.declared.board.Known.{Known}
 use Rattle.am_scenario_types.specs.Lists.{ScenarioLists}
 use Rattle.am_wire.specs.declared.receiving.LinkIn.{LinkIn}
 use Rattle.am_wire.specs.declared.sending.LinkOut.{LinkOut}
-use Rattle.am_workers_invariants.specs.Begins.{ids_of, IsOpenIn}
-use Rattle.am_workers_invariants.specs.Drives.{CanDrive, KnowsPlace, LiesSo, line_by}
-use Rattle.am_workers_invariants.specs.Seats.{EndPass, IsBorn, IsIdle, KnowsNode}
-use Rattle.am_workers_invariants.specs.Stands.{fresh_pass}
-use Rattle.am_workers_invariants.specs.Works.{DriverWorks, InterfaceWorks, ThreadWorks}
-use Rattle.am_workers_invariants.proofs.Begins.{interfaces_begin, threads_begin}
-use Rattle.am_workers_invariants.proofs.Fresh.{fresh_know, known_of}
+use Rattle.am_workers_laws.specs.Invariants.Begins.{ids_of, IsOpenIn}
+use Rattle.am_workers_laws.specs.Invariants.Drives.{CanDrive, KnowsPlace, LiesSo, line_by}
+use Rattle.am_workers_laws.specs.Invariants.Seats.{EndPass, IsBorn, IsIdle, KnowsNode}
+use Rattle.am_workers_laws.specs.Invariants.Stands.{fresh_pass}
+use Rattle.am_workers_laws.specs.Invariants.Works.{DriverWorks, InterfaceWorks, ThreadWorks}
+use Rattle.am_workers_laws.proofs.Begins.{interfaces_begin, threads_begin}
+use Rattle.am_workers_laws.proofs.Fresh.{fresh_know, known_of}
 use Rattle.am_workers.specs.AtWork.{sent_by, sent_on, taken_by, taken_on}
 use Rattle.am_workers.specs.Begins.{AreOfNode, AreUnused, BooksAreHomely, DriversBegin, IsNewDisk, IsNewSeat, NewDriversAreAtWork, NewInterfacesAreAtWork}
 use Rattle.am_workers.specs.Begins.{NewThreadsAreAtWork, view_of}

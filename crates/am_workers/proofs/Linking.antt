@@ -11,8 +11,8 @@ use Rattle.am_model.specs.Packets.{receiver_of}
 use Rattle.am_wire.specs.Links.{SameEnd, SameLink, emitted, received, spare}
 use Rattle.am_wire.specs.declared.receiving.LinkIn.{LinkIn}
 use Rattle.am_wire.specs.declared.sending.LinkOut.{LinkOut}
-use Rattle.am_workers_turns.specs.Servers.{sent_to}
-use Rattle.am_workers_invariants.specs.Works.{Hand, held_from}
+use Rattle.am_workers.specs.Turns.Servers.{sent_to}
+use Rattle.am_workers_laws.specs.Invariants.Works.{Hand, held_from}
 use Rattle.am_workers.specs.AtWork.{SameIns, SameOuts, sent_by, sent_on, taken_by, taken_on}
 use Rattle.am_workers.specs.Ways.{AreKept, HaveRoom, HaveRoomBut}
 

@@ -1,11 +1,11 @@
 -- What the worker of an interface keeps over a turn.
-use Rattle.std.specs.Prelude.{slice_get}
-use Rattle.std.proofs.Common.{◌≡◌, ℕ, ◌+◌, ◌<◌, ◌≤◌, List, ◌++◌, length, Option, Some, sym, ap, ◌∙◌, subst, arith}
+use Rattle.std.specs.Prelude.{is_err, slice_get}
+use Rattle.std.proofs.Common.{◌≡◌, ℕ, ◌+◌, ◌<◌, ◌≤◌, List, ◌++◌, length, Option, Some, sym, ap, ◌∙◌, subst, arith, true, false, OnOk, OnErr, Result, Ok, Err, true≢false}
 use Rattle.atomic_table.specs.Seated.{TableId}
 use Rattle.atomic_table.specs.declared.shared.Seat as tokens
 use Rattle.am_names.specs.declared.NodeId.{NodeId}
 use Rattle.am_names.specs.declared.Packet.{Packet}
-use Rattle.am_office.specs.declared.Entry.{Entry}
+use Rattle.am_office_entries.specs.declared.Entry.{Entry}
 use Rattle.am_model.specs.Channels.{emitted}
 use Rattle.am_model.specs.Endpoint.{entry_at}
 use Rattle.am_model_parts.specs.Together.{IsSet}
@@ -17,10 +17,10 @@ use Rattle.am_scenario_types.specs.Lawful.{IsLawful}
 use Rattle.am_model_scripts.specs.Layout.{layout_of}
 use Rattle.am_wire.specs.Links.{SameLink}
 use Rattle.am_wire.specs.declared.sending.LinkOut.{LinkOut}
-use Rattle.am_workers_books.specs.declared.EndBook.{EndBook}
-use Rattle.am_workers_invariants.specs.Seats.{EndPass, Ids, IsIdle}
-use Rattle.am_workers_invariants.specs.Works.{Hand, InterfaceWorks, held_from}
-use Rattle.am_workers_turns.specs.Servers.{sent_to}
+use Rattle.am_workers_laws.specs.declared.books.EndBook.{EndBook}
+use Rattle.am_workers_laws.specs.Invariants.Seats.{EndPass, Ids, IsIdle}
+use Rattle.am_workers_laws.specs.Invariants.Works.{Hand, InterfaceWorks, held_from}
+use Rattle.am_workers.specs.Turns.Servers.{sent_to}
 use Rattle.am_workers.specs.AtWork.{AreOuts, IsInterfaceAtWork, IsWay, SameOuts, sent_by, taken_by}
 use Rattle.am_workers.specs.Ways.{CanServe, HaveRoom, HaveRoomBut, Prepares, Serves}
 use Rattle.am_workers.specs.declared.workers.InterfaceWorker.{InterfaceWorker}
@@ -196,3 +196,27 @@ pub sends_all : (node : NodeId) (log log' : List Entry) (a b : List LinkOut) (ou
     ((to : NodeId) → sent_by b to ≡ sent_by a to ++ sent_to to out) → ((to : NodeId) → emitted node to log' ≡ emitted node to log ++ sent_to to out) →
     (to : NodeId) → sent_by b to ≡ emitted node to log'
 sends_all node log log' a b out before more now to = more to ∙ ap (λ (ps : List Packet). ps ++ sent_to to out) (before to) ∙ sym (now to)
+
+-- ---- a look at the links that found no room
+
+pub on_ok : {T E : Type 0} (r : Result T E) (P : Type 0) → is_err r ≡ false → OnOk r P → P
+on_ok (Ok x) P is h = h
+on_ok (Err e) P is h = absurd (true≢false is)
+
+pub on_err : {T E : Type 0} (r : Result T E) (P : Type 0) → is_err r ≡ true → OnErr r P → P
+on_err (Ok x) P is h = absurd (true≢false (sym is))
+on_err (Err e) P is h = h
+
+pub prepares_stopped : (v u : InterfaceWorker) (stop : Option Stop) → Prepares v u → Prepares v (record u { stop = stop })
+prepares_stopped v u stop p =
+    record {
+      token = p.token;
+      interface = p.interface;
+      set = p.set;
+      last = p.last;
+      outs = p.outs;
+      spared = p.spared;
+      ins = p.ins;
+      within = p.within;
+      taken = p.taken;
+    }

@@ -1,9 +1,9 @@
 -- What a thread and a driver keep from turn to turn.
-use Rattle.std.proofs.Common.{◌≡◌, ℕ, ◌+◌, ◌<◌, ◌^◌, true, ◌&&◌, List, Some, sym, ap, subst}
+use Rattle.std.proofs.Common.{◌≡◌, ℕ, ◌+◌, ◌<◌, ◌^◌, true, ◌&&◌, List, Some, sym, ap, subst, Option, None, IfSome, IfNone}
 use Rattle.atomic_table.specs.Seated.{TableId}
 use Rattle.am_lemmas.proofs.Bools.{and_second}
 use Rattle.am_names.specs.declared.NodeId.{NodeId}
-use Rattle.am_office.specs.declared.Actor.TheVariants.{Thread}
+use Rattle.am_office_entries.specs.declared.Actor.TheVariants.{Thread}
 use Rattle.am_model_scripts.specs.Layout.{is_direct, layout_of}
 use Rattle.am_model_scripts.proofs.Lawful.{lawful_layout}
 use Rattle.am_model_parts.specs.Together.{ends_of}
@@ -15,11 +15,14 @@ use Rattle.am_scenario_types.specs.Lawful.{IsLawful}
 use Rattle.am_scenario_types.specs.Lists.{ScenarioLists}
 use Rattle.am_scenario_types.specs.declared.parts.Network.TheVariants.{Packet}
 use Rattle.am_scenario_types.specs.declared.parts.ScriptCall.{ScriptCall}
-use Rattle.am_workers_turns.specs.Callers.{HaveRange, IsScript}
-use Rattle.am_workers_invariants.specs.Drivers.{IsDriverOf}
-use Rattle.am_workers_invariants.specs.Seats.{AreBorn, EndPass, Ids, SameSeat}
+use Rattle.am_workers.specs.Turns.Callers.{HaveRange, IsScript, next_after}
+use Rattle.am_workers.specs.Turns.Turns.{clock_after}
+use Rattle.am_workers.specs.WorkerTurns.{clock_by, next_by}
+use Rattle.am_workers_laws.specs.Invariants.Drivers.{IsDriverOf}
+use Rattle.am_workers_laws.specs.Invariants.Seats.{AreBorn, EndPass, Ids, SameSeat}
 use Rattle.am_workers.specs.AtWork.{IsDriverAtWork, IsThreadAtWork}
 use Rattle.am_workers.specs.declared.workers.DriverWorker.{DriverWorker}
+use Rattle.am_workers.specs.declared.turns.turns.ThreadTurn.{ThreadTurn}
 use Rattle.am_workers.specs.declared.workers.Stop.{Stop}
 use Rattle.am_workers.specs.declared.workers.ThreadWorker.{ThreadWorker}
 
@@ -53,3 +56,14 @@ pub record IsSameDriver (s : ScenarioLists) (table : TableId) (ids : Ids) (node 
   pub seat : SameSeat w.seat.token.me.0 w'.seat.token.me.0
   pub is_node : w'.node ≡ w.node
   pub stopped : (why : Stop) → w.stop ≡ Some why → w' ≡ w
+
+-- how many calls a thread has made, and its clock, by what its turn answered
+pub next_is : (made : Option ThreadTurn) (next next' clock clock' : ℕ) → IfSome made (λ (turn : ThreadTurn). next' ≡ next_after next turn) →
+    IfNone made ((next' ≡ next) × (clock' ≡ clock)) → next' ≡ next_by next made
+next_is None next next' clock clock' some none = none.0
+next_is (Some turn) next next' clock clock' some none = some
+
+pub clock_is : (made : Option ThreadTurn) (next next' clock clock' : ℕ) → IfSome made (λ (turn : ThreadTurn). clock' ≡ clock_after clock turn) →
+    IfNone made ((next' ≡ next) × (clock' ≡ clock)) → clock' ≡ clock_by clock made
+clock_is None next next' clock clock' some none = none.1
+clock_is (Some turn) next next' clock clock' some none = some

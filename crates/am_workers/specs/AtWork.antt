@@ -15,9 +15,9 @@ use Rattle.am_wire.specs.Links.{SameEnd, SameLink, emitted, received, spare}
 use Rattle.am_wire.specs.declared.receiving.LinkIn.{LinkIn}
 use Rattle.am_wire.specs.declared.sending.LinkOut.{LinkOut}
 use Rattle.am_swap_device.specs.Memory.{device_of}
-use Rattle.am_workers_invariants.specs.Seats.{Ids, IsIdle}
-use Rattle.am_workers_invariants.specs.Works.{DriverWorks, InterfaceWorks, ThreadWorks}
-use Rattle.am_workers_turns.specs.Callers.{IsScript}
+use Rattle.am_workers_laws.specs.Invariants.Seats.{Ids, IsIdle}
+use Rattle.am_workers_laws.specs.Invariants.Works.{DriverWorks, InterfaceWorks, ThreadWorks}
+use Rattle.am_workers.specs.Turns.Callers.{IsScript}
 use Rattle.am_workers.specs.declared.workers.ThreadWorker.{ThreadWorker}
 use Rattle.am_workers.specs.declared.workers.InterfaceWorker.{InterfaceWorker}
 use Rattle.am_workers.specs.declared.workers.DriverWorker.{DriverWorker}

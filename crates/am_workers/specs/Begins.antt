@@ -4,11 +4,11 @@ use Rattle.atomic_table.specs.Seated.{TableId}
 use Rattle.atomic_table.specs.declared.shared.Seat.{Seat}
 use Rattle.am_names.specs.declared.EndpointId.{EndpointId}
 use Rattle.am_names.specs.declared.NodeId.{NodeId}
-use Rattle.am_workers_books.specs.Books.{stands_at}
-use Rattle.am_workers_books.specs.declared.EndBook.{EndBook}
+use Rattle.am_workers_laws.specs.Books.Books.{stands_at}
+use Rattle.am_workers_laws.specs.declared.books.EndBook.{EndBook}
 use Rattle.am_swap_device.specs.Memory.{Store, device_of}
-use Rattle.am_driver.specs.Lists.{ViewLists}
-use Rattle.am_driver.specs.Views.{line_of}
+use Rattle.am_driver_moves.specs.Choice.Lists.{ViewLists}
+use Rattle.am_driver_moves.specs.Choice.Views.{line_of}
 use Rattle.am_endpoint.specs.View.{state_after}
 use Rattle.am_model_scripts.specs.Layout.{layout_of}
 use Rattle.am_iface.specs.Settings.{AreLawful}
@@ -17,14 +17,14 @@ use Rattle.am_model_parts.specs.Together.{IsSet, faults_of}
 use Rattle.am_model.specs.Layout.{AllAre}
 use Rattle.am_scenario_types.specs.Lists.{ScenarioLists}
 use Rattle.am_model_scripts.specs.Follows.{is_thread}
-use Rattle.am_workers_turns.specs.Callers.{IsScript}
+use Rattle.am_workers.specs.Turns.Callers.{IsScript}
 use Rattle.am_wire.specs.Links.{emitted, received}
 use Rattle.am_wire.specs.declared.receiving.LinkIn.{LinkIn}
 use Rattle.am_wire.specs.declared.sending.LinkOut.{LinkOut}
-use Rattle.am_workers_invariants.specs.Begins.{AreFresh, ids_of, IsOpenIn}
-use Rattle.am_workers_invariants.specs.Seats.{EndPass}
-use Rattle.am_workers_invariants.specs.Stands.{fresh_pass}
-use Rattle.am_workers_invariants.specs.Works.{DriverWorks}
+use Rattle.am_workers_laws.specs.Invariants.Begins.{AreFresh, ids_of, IsOpenIn}
+use Rattle.am_workers_laws.specs.Invariants.Seats.{EndPass}
+use Rattle.am_workers_laws.specs.Invariants.Stands.{fresh_pass}
+use Rattle.am_workers_laws.specs.Invariants.Works.{DriverWorks}
 use Rattle.am_workers.specs.AtWork.{AreOuts, IsDriverAtWork, IsInterfaceAtWork, IsThreadAtWork}
 use Rattle.am_workers.specs.declared.workers.ThreadWorker.{ThreadWorker}
 use Rattle.am_workers.specs.declared.workers.InterfaceWorker.{InterfaceWorker}

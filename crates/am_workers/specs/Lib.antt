@@ -2,3 +2,5 @@ pub mod AtWork
 pub mod Begins
 pub mod Stops
 pub mod Ways
+pub mod WorkerTurns
+pub mod Turns

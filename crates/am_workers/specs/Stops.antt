@@ -1,12 +1,12 @@
 -- When a worker makes no further turn, by what its turn answered.
 use Rattle.std.specs.Prelude.{Option, Some, None, Result, Ok, Err}
-use Rattle.am_workers_driver.specs.declared.turns.DriverFault.{DriverFault}
-use Rattle.am_workers_driver.specs.declared.turns.DriverFault.TheVariants as Faults
-use Rattle.am_workers_driver.specs.declared.turns.DriverTurn.{DriverTurn}
-use Rattle.am_workers_turns.specs.declared.turns.InterfaceTurn.{InterfaceTurn}
-use Rattle.am_workers_turns.specs.declared.turns.InterfaceTurn.TheVariants as Worked
-use Rattle.am_workers_turns.specs.declared.turns.ThreadTurn.{ThreadTurn}
-use Rattle.am_workers_turns.specs.declared.turns.ThreadTurn.TheVariants as Turns
+use Rattle.am_driver.specs.declared.turns.DriverFault.{DriverFault}
+use Rattle.am_driver.specs.declared.turns.DriverFault.TheVariants as Faults
+use Rattle.am_driver.specs.declared.turns.DriverTurn.{DriverTurn}
+use Rattle.am_workers.specs.declared.turns.turns.InterfaceTurn.{InterfaceTurn}
+use Rattle.am_workers.specs.declared.turns.turns.InterfaceTurn.TheVariants as Worked
+use Rattle.am_workers.specs.declared.turns.turns.ThreadTurn.{ThreadTurn}
+use Rattle.am_workers.specs.declared.turns.turns.ThreadTurn.TheVariants as Turns
 use Rattle.am_workers.specs.declared.workers.Stop.{Stop}
 use Rattle.am_workers.specs.declared.workers.Stop.TheVariants as Stops
 

@@ -10,9 +10,9 @@ use Rattle.am_iface.specs.Settings.{AreLawful}
 use Rattle.am_scenario_types.specs.Lists.{ScenarioLists}
 use Rattle.am_wire.specs.Links.{spare}
 use Rattle.am_wire.specs.declared.sending.LinkOut.{LinkOut}
-use Rattle.am_workers_invariants.specs.Seats.{Ids, IsIdle, SameSeat}
-use Rattle.am_workers_invariants.specs.Works.{InterfaceWorks, held_from}
-use Rattle.am_workers_turns.specs.Servers.{IsInterfaceOf}
+use Rattle.am_workers_laws.specs.Invariants.Seats.{Ids, IsIdle, SameSeat}
+use Rattle.am_workers_laws.specs.Invariants.Works.{InterfaceWorks, held_from}
+use Rattle.am_workers.specs.Turns.Servers.{IsInterfaceOf}
 use Rattle.am_workers.specs.AtWork.{SameIns, SameOuts, sent_by, taken_by}
 use Rattle.am_workers.specs.declared.workers.InterfaceWorker.{InterfaceWorker}
 

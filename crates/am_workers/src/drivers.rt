@@ -5,16 +5,17 @@ ghost use Rattle.am_scenario_types.specs.Lawful.{IsLawful};
 ghost use Rattle.am_scenario_types.specs.declared.parts.Network.TheVariants.{Packet};
 ghost use Rattle.am_workers.specs.AtWork.{IsDriverAtWork};
 ghost use Rattle.am_workers.specs.Stops.{stop_after_move};
+ghost use Rattle.am_workers.specs.WorkerTurns.{TurnsDriver};
 ghost use Rattle.am_workers.specs.declared.workers.Stop.{Stop};
-ghost use Rattle.am_workers_invariants.specs.Seats.{SameSeat};
-ghost use Rattle.std.specs.Prelude.{Some, ◌≡◌, ◌+◌, ◌<◌};
+ghost use Rattle.am_workers_laws.specs.Invariants.Seats.{SameSeat};
+ghost use Rattle.std.specs.Prelude.{None, Some, ◌≡◌, ◌+◌, ◌<◌};
 
 use crate::gate::Gate;
 use crate::workers::{DriverWorker, Stop};
+use am_driver::{DriverFault, DriverTurn, driver_turn};
 use am_places::Places;
 use am_scenario_types::Scenario;
-use am_workers_books::EndBook;
-use am_workers_driver::{DriverFault, DriverTurn, driver_turn};
+use am_workers_laws::books::EndBook;
 use std::alloc::Global;
 
 /// Why a driver makes no further turn after this one, if it makes none.
@@ -43,6 +44,7 @@ pub fn turn_as_driver(
     requires declared { worker.old.node.0 < scenario.now.nodes }
     requires frames { places.now.frames ≡ scenario.now.frames }
     requires at_work { IsDriverAtWork scenario.now places.now.board.shared.table_id places.now.ids.items worker.old.node turn worker.old }
+    ensures turn { worker.old.stop ≡ None → TurnsDriver worker.old worker.new }
     ensures at_work { IsDriverAtWork scenario.now places.now.board.shared.table_id places.now.ids.items worker.old.node (turn + 1) worker.new }
     ensures seat { SameSeat worker.old.seat.token.me.0 worker.new.seat.token.me.0 }
     ensures node { worker.new.node ≡ worker.old.node }

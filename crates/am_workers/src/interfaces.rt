@@ -1,23 +1,25 @@
 //! An interface between its links, from turn to turn.
 ghost use Rattle.am_scenario_types.specs.Lawful.{IsLawful};
 ghost use Rattle.am_scenario_types.specs.declared.parts.Network.TheVariants.{Packet as IsPacket};
-ghost use Rattle.am_workers_turns.specs.Servers.{HandHolds, out_of};
+ghost use Rattle.am_workers.specs.Turns.Servers.{HandHolds, out_of};
 ghost use Rattle.am_workers.specs.AtWork.{IsInterfaceAtWork, SameIns, SameOuts};
+ghost use Rattle.am_workers.specs.WorkerTurns.{AreWhole, DoesWork, FindsWork, TakesInHand, TurnsInterface};
+ghost use Rattle.am_workers.specs.Turns.Chosen.{next_place};
 ghost use Rattle.am_workers.specs.Ways.{CanServe, HaveRoom, HaveRoomBut, Prepares, Serves};
 ghost use Rattle.am_workers.specs.Stops.{stop_after_work};
 ghost use Rattle.am_workers.specs.declared.workers.Stop.{Stop};
-ghost use Rattle.am_workers_invariants.specs.Seats.{SameSeat};
-ghost use Rattle.std.specs.Prelude.{◌≡◌, ◌+◌, ◌<◌, ◌≤◌, OnErr, OnOk, Some, length};
+ghost use Rattle.am_workers_laws.specs.Invariants.Seats.{SameSeat};
+ghost use Rattle.std.specs.Prelude.{◌≡◌, ◌+◌, ◌<◌, ◌≤◌, None, OnErr, OnOk, Some, length};
 
 use crate::gate::Gate;
-use crate::ways::{make_room, pump_all, send, take_in_hand};
+use crate::turns::{InterfaceTurn, next_work, serve};
+use crate::ways::{make_room, place_after, pump_all, send, take_in_hand};
 use crate::workers::{InterfaceWorker, Stop};
 use am_iface::Work;
 use am_names::{EndpointId, NoMemory, NodeId, Packet};
 use am_places::Places;
 use am_scenario_types::Scenario;
-use am_workers_books::EndBook;
-use am_workers_turns::{InterfaceTurn, next_work, serve};
+use am_workers_laws::books::EndBook;
 
 /// Makes room on each link for a packet more, pumps the links, and takes the first packet that they have, if none is in hand.
 /// `NoMemory` comes only where there is no room: no packet is taken then, and the hand and the ends that receive stay as they were.
@@ -25,6 +27,10 @@ fn prepare(worker: &mut InterfaceWorker) -> Result<(), NoMemory>
     requires from { worker.old.from < length worker.old.ins.items }
     requires few { length worker.old.ins.items ≤ 16 }
     ensures prepared { Prepares worker.old worker.new }
+    ensures whole { OnOk result (AreWhole worker.new.outs.items) }
+    ensures takes { OnOk result (TakesInHand worker.old.hand worker.new.hand worker.old.ins.items worker.old.from worker.new.from) }
+    ensures waits { worker.new.waits ≡ worker.old.waits }
+    ensures end { worker.new.end ≡ worker.old.end }
     ensures room { HaveRoomBut worker.old.last worker.old.outs.items → OnOk result (HaveRoom worker.new.outs.items) }
     ensures hand { OnErr result (worker.new.hand ≡ worker.old.hand) }
     ensures ins { OnErr result (worker.new.ins ≡ worker.old.ins) }
@@ -60,13 +66,12 @@ fn stop_after_work(turn: &InterfaceTurn) -> Option<Stop>
     }
 }
 
-/// The place of the endpoint that is next, of so many, counted round: after a bind it is the one after this.
-fn next_place(at: usize, work: &Work, count: usize) -> usize {
+/// The place of the endpoint that is next, of so many: after a bind it is the one after this.
+fn next_place(at: usize, work: &Work, count: usize) -> usize
+    ensures { result ≡ next_place at work.now count }
+{
     match work {
-        Work::Bind(_) => {
-            let next = at.wrapping_add(1);
-            if next < count { next } else { 0 }
-        }
+        Work::Bind(_) => place_after(at, count),
         Work::Receive(_) | Work::Expire { .. } => at,
     }
 }
@@ -75,7 +80,8 @@ fn next_place(at: usize, work: &Work, count: usize) -> usize {
 fn do_work(worker: &mut InterfaceWorker, places: &Places<EndBook>, ids: &[EndpointId], work: &Work)
     requires can { CanServe places.now.board.shared.table_id places.now.count ids.now worker.old }
     requires hand { HandHolds worker.old.hand work.now }
-    ensures { Serves places.now.board.shared.table_id ids.now worker.old worker.new }
+    ensures serves { Serves places.now.board.shared.table_id ids.now worker.old worker.new }
+    ensures does { DoesWork ids.now work.now worker.old worker.new }
 {
     let turn = serve(
         places,
@@ -96,19 +102,21 @@ fn do_work(worker: &mut InterfaceWorker, places: &Places<EndBook>, ids: &[Endpoi
 /// Chooses a work and does it, if there is one to do.
 fn find_work(worker: &mut InterfaceWorker, places: &Places<EndBook>, ids: &[EndpointId])
     requires can { CanServe places.now.board.shared.table_id places.now.count ids.now worker.old }
-    ensures { Serves places.now.board.shared.table_id ids.now worker.old worker.new }
+    ensures serves { Serves places.now.board.shared.table_id ids.now worker.old worker.new }
+    ensures finds { FindsWork ids.now worker.old worker.new }
 {
     worker.waits.begin_turn();
     let chosen = next_work(
         &worker.interface,
         &worker.set,
-        &mut worker.waits,
+        &worker.waits,
         worker.hand,
         ids,
         worker.end,
     );
-    if let Some(work) = chosen {
-        do_work(worker, places, ids, &work);
+    match chosen {
+        None => {}
+        Some(work) => do_work(worker, places, ids, &work),
     }
 }
 
@@ -123,6 +131,7 @@ pub fn turn_as_interface(
 )
     requires lawful { IsLawful scenario.now }
     requires at_work { IsInterfaceAtWork scenario.now places.now.board.shared.table_id places.now.ids.items node turn worker.old }
+    ensures turn { worker.old.stop ≡ None → TurnsInterface places.now.ids.items worker.old worker.new }
     ensures at_work { IsInterfaceAtWork scenario.now places.now.board.shared.table_id places.now.ids.items node (turn + 1) worker.new }
     ensures seat { SameSeat worker.old.seat.token.me.0 worker.new.seat.token.me.0 }
     ensures outs { SameOuts worker.old.outs.items worker.new.outs.items }

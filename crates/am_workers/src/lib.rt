@@ -7,6 +7,7 @@ mod gate;
 mod interfaces;
 mod starts;
 mod threads;
+pub mod turns;
 mod ways;
 mod workers;
 

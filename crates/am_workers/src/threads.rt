@@ -2,16 +2,17 @@
 ghost use Rattle.am_scenario_types.specs.Lawful.{IsLawful};
 ghost use Rattle.am_workers.specs.AtWork.{IsThreadAtWork};
 ghost use Rattle.am_workers.specs.Stops.{stop_after_call};
+ghost use Rattle.am_workers.specs.WorkerTurns.{TurnsThread};
 ghost use Rattle.am_workers.specs.declared.workers.Stop.{Stop};
-ghost use Rattle.am_workers_invariants.specs.Seats.{SameSeat};
-ghost use Rattle.std.specs.Prelude.{Some, ◌≡◌, ◌+◌};
+ghost use Rattle.am_workers_laws.specs.Invariants.Seats.{SameSeat};
+ghost use Rattle.std.specs.Prelude.{None, Some, ◌≡◌, ◌+◌};
 
 use crate::gate::Gate;
+use crate::turns::{ThreadTurn, call_turn};
 use crate::workers::{Stop, ThreadWorker};
 use am_places::Places;
 use am_scenario_types::Scenario;
-use am_workers_books::EndBook;
-use am_workers_turns::{ThreadTurn, call_turn};
+use am_workers_laws::books::EndBook;
 
 /// Why a thread makes no further turn after this one, if it makes none.
 fn stop_after_call(turn: Option<ThreadTurn>) -> Option<Stop>
@@ -24,8 +25,9 @@ fn stop_after_call(turn: Option<ThreadTurn>) -> Option<Stop>
     }
 }
 
-/// The turn of a thread with this number, from 0: its next call, if one is left. A full log stops it, and want of memory does; one
-/// that stopped makes no call.
+/// The turn of a thread with this number, from 0: its next call, if one is left. The call is made where its endpoint is free and not on
+/// disk, and an endpoint on disk that is not wanted is wanted. A full log stops it, and want of memory does; one that stopped makes no
+/// call.
 pub fn turn_as_thread(
     worker: &mut ThreadWorker,
     places: &Places<EndBook>,
@@ -33,6 +35,7 @@ pub fn turn_as_thread(
     turn: u32,
 )
     requires at_work { IsThreadAtWork scenario.now places.now.board.shared.table_id places.now.ids.items turn worker.old }
+    ensures turn { worker.old.stop ≡ None → TurnsThread places.now.ids.items worker.old worker.new }
     ensures at_work { IsThreadAtWork scenario.now places.now.board.shared.table_id places.now.ids.items (turn + 1) worker.new }
     ensures seat { SameSeat worker.old.seat.token.me.0 worker.new.seat.token.me.0 }
     ensures thread { worker.new.thread ≡ worker.old.thread }

@@ -1,12 +1,17 @@
 //! The ends of an interface's links, by the numbers of the nodes.
+ghost use Rattle.am_model.specs.Layout.{node_at};
 ghost use Rattle.am_model.specs.Packets.{receiver_of};
 ghost use Rattle.am_names.specs.declared.NodeId.{NodeId};
 ghost use Rattle.am_names.specs.declared.Packet.{Packet};
-ghost use Rattle.am_workers_turns.specs.Servers.{sent_to};
+ghost use Rattle.am_workers.specs.Turns.Servers.{sent_to};
 ghost use Rattle.am_workers.specs.AtWork.{SameIns, SameOuts, sent_by, taken_by};
+ghost use Rattle.am_workers.specs.WorkerTurns.{AreWhole, AreWholeTo, TakesFirst, TakesInHand};
 ghost use Rattle.am_workers.specs.Ways.{AreKept, HaveRoom, HaveRoomBut};
-ghost use Rattle.am_workers_invariants.specs.Works.{held_from};
-ghost use Rattle.std.specs.Prelude.{◌≡◌, ◌<◌, ◌≤◌, ◌++◌, IfSome, List, OnOk, Some, length};
+ghost use Rattle.am_workers.specs.Turns.Chosen.{place_after};
+ghost use Rattle.am_wire.specs.Links.{known};
+ghost use Rattle.am_wire.specs.declared.receiving.LinkIn.{LinkIn};
+ghost use Rattle.am_workers_laws.specs.Invariants.Works.{held_from};
+ghost use Rattle.std.specs.Prelude.{◌≡◌, ◌≢◌, ◌<◌, ◌≤◌, ◌+◌, ◌++◌, ℕ, [], IfNone, IfSome, List, OnOk, Some, length, slice_get};
 
 use am_names::{NoMemory, NodeId, Packet};
 use am_wire::{LinkIn, LinkOut};
@@ -29,15 +34,17 @@ fn pump_at(outs: &mut Vec<LinkOut>, at: usize)
     requires { at < length outs.old.items }
     ensures kept { AreKept outs.old.items outs.new.items }
     ensures room { HaveRoom outs.old.items → HaveRoom outs.new.items }
+    ensures whole { AreWholeTo at outs.old.items → AreWholeTo (at + 1) outs.new.items }
 {
     let link = &mut outs[at];
     link.pump();
 }
 
-/// Pumps each link.
+/// Pumps each link: then no packet waits on it outside its ring, or the ring has no place that is known to be free.
 pub(crate) fn pump_all(outs: &mut Vec<LinkOut>)
     ensures kept { AreKept outs.old.items outs.new.items }
     ensures room { HaveRoom outs.old.items → HaveRoom outs.new.items }
+    ensures whole { AreWhole outs.new.items }
 {
     for at in 0..outs.len() {
         pump_at(outs, at);
@@ -88,6 +95,9 @@ fn take_at(ins: &mut Vec<LinkIn>, at: usize) -> Option<(NodeId, Packet)>
     requires few { length ins.old.items ≤ 16 }
     ensures same { SameIns ins.old.items ins.new.items }
     ensures taken { (from : NodeId) → taken_by ins.new.items from ≡ taken_by ins.old.items from ++ held_from from result }
+    ensures node { IfSome result (λ held. held.0 ≡ node_at at) }
+    ensures none { IfNone result ((i : LinkIn) → slice_get ins.old.items at ≡ Some i → known i ≡ []) }
+    ensures others { (k : ℕ) → k ≢ at → slice_get ins.new.items k ≡ slice_get ins.old.items k }
 {
     let node = NodeId(at as u8);
     let link = &mut ins[at];
@@ -97,12 +107,16 @@ fn take_at(ins: &mut Vec<LinkIn>, at: usize) -> Option<(NodeId, Packet)>
     }
 }
 
-/// The place after this one, of so many, counted round.
-fn place_after(at: usize, count: usize) -> usize
-    requires { at < count }
-    ensures { result < count }
+/// The place after this one, of so many: after the last comes the first.
+pub(crate) fn place_after(at: usize, count: usize) -> usize
+    ensures value { result ≡ place_after at count }
+    ensures within { 0 < count → result < count }
 {
-    if at + 1 < count { at + 1 } else { 0 }
+    if at < count.saturating_sub(1) {
+        at + 1
+    } else {
+        0
+    }
 }
 
 /// Looks at each link once, from this place on and round, and takes the first packet. The place is then that of the next link.
@@ -112,6 +126,7 @@ fn take_next(ins: &mut Vec<LinkIn>, from: &mut usize) -> Option<(NodeId, Packet)
     ensures from { from.new < length ins.new.items }
     ensures same { SameIns ins.old.items ins.new.items }
     ensures taken { (node : NodeId) → taken_by ins.new.items node ≡ taken_by ins.old.items node ++ held_from node result }
+    ensures first { TakesFirst ins.old.items from.old from.new result }
 {
     let count = ins.len();
     for step in 0..count {
@@ -136,6 +151,7 @@ pub(crate) fn take_in_hand(
     ensures from { from.new < length ins.new.items }
     ensures same { SameIns ins.old.items ins.new.items }
     ensures taken { (node : NodeId) (got : List Packet) → taken_by ins.old.items node ≡ got ++ held_from node hand.old → taken_by ins.new.items node ≡ got ++ held_from node hand.new }
+    ensures first { TakesInHand hand.old hand.new ins.old.items from.old from.new }
 {
     if hand.is_none() {
         *hand = take_next(ins, from);

@@ -1,14 +1,14 @@
 //! What each worker has.
 
-use am_driver::View;
+use crate::turns::Waits;
+use am_driver_moves::choice::View;
 use am_iface::{IfaceSettings, Interface};
 use am_names::{NodeId, Packet};
 use am_places::Seat;
 use am_scenario_types::ScriptCall;
 use am_swap::MemorySwap;
 use am_wire::{LinkIn, LinkOut};
-use am_workers_books::EndBook;
-use am_workers_turns::Waits;
+use am_workers_laws::books::EndBook;
 
 /// Why a worker makes no further turn.
 #[derive(Clone, Copy, PartialEq, Eq, Debug)]

@@ -9,11 +9,11 @@ use Rattle.am_names.specs.declared.EndpointId.{EndpointId}
 use Rattle.am_names.specs.declared.NodeId.{NodeId}
 use Rattle.am_names.specs.declared.Packet.{Packet}
 use Rattle.am_names.specs.declared.Packet.TheVariants as Packets
-use Rattle.am_office.specs.declared.Entry.{Entry}
-use Rattle.am_office.specs.declared.Event.{Event}
-use Rattle.am_office.specs.declared.Outcome.{Outcome}
-use Rattle.am_office.specs.declared.Outcome.TheVariants as Out
-use Rattle.am_office.specs.Entries.{is_node, node_touched, touches}
+use Rattle.am_office_entries.specs.declared.Entry.{Entry}
+use Rattle.am_office_entries.specs.declared.Event.{Event}
+use Rattle.am_office_entries.specs.declared.Outcome.{Outcome}
+use Rattle.am_office_entries.specs.declared.Outcome.TheVariants as Out
+use Rattle.am_office_entries.specs.Entries.{is_node, node_touched, touches}
 use Rattle.am_model.specs.Channels.{emitted}
 use Rattle.am_model.specs.Changes.{replay}
 use Rattle.am_model.specs.Endpoint.{State, front}
@@ -38,21 +38,21 @@ use Rattle.am_model_scripts.specs.Scripts.{calls_of, script_of}
 use Rattle.am_model_scripts.specs.Layout.{layout_of}
 use Rattle.am_model_scripts.proofs.Lawful.{lawful_layout}
 use Rattle.am_places.specs.Rule.{Begins}
-use Rattle.am_workers_books.specs.declared.EndBook.{EndBook}
-use Rattle.am_workers_phase.specs.Crew.{AreReceipts, IsLinkOf, IsNotLast, is_last_by, is_receipt}
-use Rattle.am_workers_phase.specs.Makers.{Driver, Interface, IsEndLog, IsOfMaker, Maker, Thread}
-use Rattle.am_workers_phase.specs.Received.{IsOfWork}
-use Rattle.am_workers_phase.specs.Then.{ByCall, ByMove, ByWant, ByWork, IsFound, StandsAfter, WasRight}
-use Rattle.am_workers_phase.proofs.Received.{got_was_sent, works_are_numbered}
-use Rattle.am_workers_phase.proofs.Splits.{all_at, all_from}
-use Rattle.am_workers_phase.proofs.Then.{stood}
-use Rattle.am_workers_invariants.specs.Seats.{seen_log}
-use Rattle.am_workers_invariants.specs.Works.{AreLow, AreSeen, Calls, IsGot, IsMoveThenHere, IsThreadsThen, IsWorkThenHere, Wants, held_from}
+use Rattle.am_workers_laws.specs.declared.books.EndBook.{EndBook}
+use Rattle.am_workers_laws.specs.Phases.Crew.{AreReceipts, IsLinkOf, IsNotLast, is_last_by, is_receipt}
+use Rattle.am_workers_laws.specs.Phases.Makers.{Driver, Interface, IsEndLog, IsOfMaker, Maker, Thread}
+use Rattle.am_workers_laws.specs.Phases.Received.{IsOfWork}
+use Rattle.am_workers_laws.specs.Phases.Then.{ByCall, ByMove, ByWant, ByWork, IsFound, StandsAfter, WasRight}
+use Rattle.am_workers_laws.proofs.Received.{got_was_sent, works_are_numbered}
+use Rattle.am_workers_laws.proofs.Splits.{all_at, all_from}
+use Rattle.am_workers_laws.proofs.Then.{stood}
+use Rattle.am_workers_laws.specs.Invariants.Seats.{seen_log}
+use Rattle.am_workers_laws.specs.Invariants.Works.{AreLow, AreSeen, Calls, IsGot, IsMoveThenHere, IsThreadsThen, IsWorkThenHere, Wants, held_from}
 use Rattle.am_workers_laws.specs.Ended.{DriverEnd, InterfaceEnd, IsAtWork, IsEnded, Keeps, KeepsAs, RunEnd, ThreadEnd, Worker, log_at, logs_at, workers}
 use Rattle.am_workers_laws.specs.Laws.{WorkersAreDone}
 use Rattle.am_workers_laws.proofs.Passes.{IsIn, all_in, contains_in}
-use Rattle.am_workers_laws.proofs.Homes.{IsPlaced, any_end, at_home, book_there, ends_apart, got_in, home_has, log_there, low_home, placed}
-use Rattle.am_workers_laws.proofs.Books.{IsEntryOf, IsWholeBook, knows, whole_book}
+use Rattle.am_workers_laws.proofs.HomesDone.{IsPlaced, any_end, at_home, book_there, ends_apart, got_in, home_has, log_there, low_home, placed}
+use Rattle.am_workers_laws.proofs.BooksDone.{IsEntryOf, IsWholeBook, knows, whole_book}
 
 -- ---- words on lists
 

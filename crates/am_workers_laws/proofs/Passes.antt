@@ -2,13 +2,13 @@
 use Rattle.std.specs.Prelude.{slice_index_or}
 use Rattle.std.proofs.Common.{◌≡◌, ◌⊎◌, ◌≢◌, inl, inr, ⊎_elim, ℕ, zero, suc, ◌<◌, ◌==◌, Bool, true, false, cond, ◌||◌, List, [], ◌∷◌, ◌++◌, length, refl, sym}
 use Rattle.std.proofs.Common.{ap, ◌∙◌, subst, arith, append_assoc, append-nil, eqb-true, eq-eqb, true≢false, Contains}
-use Rattle.am_office.specs.declared.Entry.{Entry}
+use Rattle.am_office_entries.specs.declared.Entry.{Entry}
 use Rattle.am_model.specs.Layout.{AllAre}
 use Rattle.am_places.specs.Rule.{AllBegin, Begins, both_at, both_known, gathered, has, known_at, nothing, of}
 use Rattle.am_places.specs.declared.board.Known.{Known}
 use Rattle.am_places.specs.declared.board.Tenure.{Tenure}
-use Rattle.am_workers_phase.proofs.Seats.{of_append}
-use Rattle.am_workers_invariants.specs.Seats.{EndPass}
+use Rattle.am_workers_laws.proofs.Seats.{of_append}
+use Rattle.am_workers_laws.specs.Invariants.Seats.{EndPass}
 use Rattle.am_workers_laws.specs.Ended.{HaveSeats, Worker, gathering}
 
 -- ---- what stands in a list

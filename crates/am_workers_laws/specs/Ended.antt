@@ -6,7 +6,7 @@ use Rattle.am_names.specs.declared.EndpointId.{EndpointId}
 use Rattle.am_names.specs.declared.NodeId.{NodeId}
 use Rattle.am_names.specs.declared.Packet.{Packet}
 use Rattle.am_names.specs.Names.{same_end}
-use Rattle.am_office.specs.declared.Entry.{Entry}
+use Rattle.am_office_entries.specs.declared.Entry.{Entry}
 use Rattle.am_swap_device.specs.Memory.{Store, device_of}
 use Rattle.am_model.specs.Layout.{AllAre, home}
 use Rattle.am_model_parts.specs.Together.{ends_of}
@@ -17,15 +17,15 @@ use Rattle.am_scenario_types.specs.Lawful.{IsLawful}
 use Rattle.am_model_scripts.specs.Follows.{is_thread}
 use Rattle.am_model_scripts.specs.Links.{nodes_of}
 use Rattle.am_model_scripts.specs.Layout.{layout_of}
-use Rattle.am_driver.specs.Lists.{ViewLists}
+use Rattle.am_driver_moves.specs.Choice.Lists.{ViewLists}
 use Rattle.am_places.specs.Rule.{Comes, HasGathered, gathered, known_at}
 use Rattle.am_places.specs.declared.board.Tenure.{Tenure}
-use Rattle.am_workers_books.specs.declared.EndBook.{EndBook}
-use Rattle.am_workers_books.specs.Books.{moves, stands_at}
-use Rattle.am_workers_phase.specs.Makers.{Driver, Interface, Maker, Thread}
-use Rattle.am_workers_phase.specs.Tenures.{IsSeat}
-use Rattle.am_workers_invariants.specs.Seats.{EndPass, Ids}
-use Rattle.am_workers_invariants.specs.Works.{DriverWorks, Hand, InterfaceWorks, ThreadWorks}
+use Rattle.am_workers_laws.specs.declared.books.EndBook.{EndBook}
+use Rattle.am_workers_laws.specs.Books.Books.{moves, stands_at}
+use Rattle.am_workers_laws.specs.Phases.Makers.{Driver, Interface, Maker, Thread}
+use Rattle.am_workers_laws.specs.Phases.Tenures.{IsSeat}
+use Rattle.am_workers_laws.specs.Invariants.Seats.{EndPass, Ids}
+use Rattle.am_workers_laws.specs.Invariants.Works.{DriverWorks, Hand, InterfaceWorks, ThreadWorks}
 
 -- ---- what there is
 

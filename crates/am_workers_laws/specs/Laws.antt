@@ -3,7 +3,7 @@ use Rattle.std.specs.Prelude.{◌≡◌, []}
 use Rattle.am_model_drain.specs.Follows as drain
 use Rattle.am_model_merge.specs.Logs.{MergesInto}
 use Rattle.am_model_merge.specs.Merged.{merged}
-use Rattle.am_workers_phase.specs.Makers.{IsDone}
+use Rattle.am_workers_laws.specs.Phases.Makers.{IsDone}
 use Rattle.am_scenario_types.specs.Lists.{ScenarioLists}
 use Rattle.am_workers_laws.specs.Ended.{IsEnded, RunEnd, all_lists, logs_at}
 

@@ -1,2 +1,5 @@
 pub mod Ended
 pub mod Laws
+pub mod Phases
+pub mod Books
+pub mod Invariants

@@ -4,6 +4,10 @@
 
 ghost use Rattle.am_workers_laws.specs.Laws.{EmptyIsAPhase, EndsAreAPhase, NoTurnsNoPhase, WorkersAreDone};
 
+pub mod books;
+pub mod invariants;
+pub mod phases;
+
 /// What all workers keep at the end of the phase, with the books and the links, is what a good phase is made of.
 pub fn workers_are_done()
     ensures { WorkersAreDone }

@@ -1,4 +1,6 @@
-use Rattle.std.proofs.Common.{◌∙◌}
+use Rattle.std.proofs.Common.{◌∙◌, List, subst, sym}
+use Rattle.am_office_entries.specs.declared.Entry.{Entry}
+use Rattle.am_model_drain.specs.Cut.{IsDrainCutOff}
 use Rattle.am_cluster.proofs.Obeying.{handed_cut_off, handed_obeys, handed_whole}
 use Rattle.am_cluster.proofs.drain_phase.Goals as goal
 
@@ -29,3 +31,10 @@ returns-in-Err-LogFull-clause-stopped c =
     c.of-journal.ensures
     (c.drain_cluster-drained.ensures.layout ∙ c.requires.layout)
     c.laws.ensures.laws c.laws.ensures.order
+
+pub returns-in-Err-LogFull-clause-ends : goal.returns-in-Err-LogFull-clause-ends
+returns-in-Err-LogFull-clause-ends c =
+    let halted = rw c.in-Err-LogFull.is at c.drain_cluster-drained.ensures.stopped in
+    let same = rw c.in-Err-LogFull.is at c.in-Err-LogFull.field-0-is in
+    let cut = rw same at halted in
+    subst (λ (journal : List Entry). IsDrainCutOff c.args.scenario.now c.args.cluster.journal c.in-Err-LogFull.full journal) (sym c.of-journal.ensures) cut

@@ -20,5 +20,5 @@ returns-in-Err-clause-stopped g c =
 
 pub turns-smaller : goal.turns-smaller
 turns-smaller g c =
-    let m = g.M.Machine in
+    let m = g.M.Drainable in
     falls m.work _ _ _ _ c.in-Some.turn c.turns_fall.ensures (sym c.in-Some.ensures.turn) c.in-Ok.ensures.scenario c.in-Ok.ensures.acts.does

@@ -1,5 +1,5 @@
 use Rattle.std.proofs.Common.{ap, arith, length, List}
-use Rattle.am_office.specs.declared.Entry.{Entry}
+use Rattle.am_office_entries.specs.declared.Entry.{Entry}
 use Rattle.am_cluster_scripted.proofs.Applying.{short_of}
 use Rattle.am_cluster_scripted.proofs.calls_made.Goals as goal
 

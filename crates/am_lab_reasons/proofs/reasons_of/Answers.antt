@@ -1,9 +1,9 @@
 use Rattle.std.proofs.Common.{◌≡◌, List, length, drop, sym, ap, ◌∙◌, subst, arith}
 use Rattle.am_lexer.specs.Text.{lines_of}
 use Rattle.am_model.specs.Layout.{Layout}
-use Rattle.am_office.specs.declared.Entry.{Entry}
+use Rattle.am_office_entries.specs.declared.Entry.{Entry}
 use Rattle.am_scenario_types.specs.Lists.{ScenarioLists}
-use Rattle.am_lab_journal.specs.Lines.{AreLines, HasEnd}
+use Rattle.am_lab_reasons.specs.Journal.Lines.{AreLines, HasEnd}
 use Rattle.am_lab_reasons.proofs.Reported.{has_end, reported, told_of}
 use Rattle.am_lab_reasons.proofs.reasons_of.Goals as goal
 

@@ -1,4 +1,4 @@
-use Rattle.am_workers_laws.proofs.Ends.{empty_is_a_phase, no_turns_no_phase}
+use Rattle.am_workers_laws.proofs.EndsDone.{empty_is_a_phase, no_turns_no_phase}
 use Rattle.am_workers_laws.proofs.no_turns_no_phase.Goals as goal
 
 pub returns-clause-none : goal.returns-clause-none

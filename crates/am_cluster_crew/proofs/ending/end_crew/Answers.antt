@@ -2,11 +2,11 @@ use Rattle.std.specs.Prelude.{get_or}
 use Rattle.std.proofs.Common.{◌≡◌, ◌∙◌, Option, map, refl, sym, ap, subst, arith}
 use Rattle.std.proofs.lemmas.Option.{slice_get-get_or}
 use Rattle.atomic_table.specs.Table.{Me}
-use Rattle.am_workers_books.specs.declared.EndBook.{EndBook}
+use Rattle.am_workers_laws.specs.declared.books.EndBook.{EndBook}
 use Rattle.am_places.specs.Rule.{HasGathered, IsOutside, gathered}
-use Rattle.am_workers_invariants.specs.Seats.{EndPass}
+use Rattle.am_workers_laws.specs.Invariants.Seats.{EndPass}
 use Rattle.am_workers_laws.specs.Ended.{IsTakenOut}
-use Rattle.am_cluster_ends.specs.Ends.{pass_of, passes_of, whole_of}
+use Rattle.am_cluster_crew.specs.Ends.Ends.{pass_of, passes_of, whole_of}
 use Rattle.am_cluster_crew.proofs.Gathered.{gathered_push, outside_all}
 use Rattle.am_cluster_crew.proofs.ending.end_crew.Goals as goal
 

@@ -1,9 +1,9 @@
 use Rattle.std.proofs.Common.{◌≡◌, map}
 use Rattle.std.specs.List.{AllByRecursion}
-use Rattle.am_cluster_ends.specs.Ends.{gathered_all, pass_of}
-use Rattle.am_cluster_nodes.specs.Openings.{table_in}
+use Rattle.am_cluster_crew.specs.Ends.Ends.{gathered_all, pass_of}
+use Rattle.am_cluster_opening.specs.Node.Openings.{table_in}
 use Rattle.am_workers.specs.declared.workers.ThreadWorker.{ThreadWorker}
-use Rattle.am_workers_invariants.specs.Seats.{IsIdle}
+use Rattle.am_workers_laws.specs.Invariants.Seats.{IsIdle}
 use Rattle.am_cluster_crew.proofs.ending.gather_threads.Given as goal
 
 abbrev pub invariant-loop-worker : goal.invariant-loop-worker

@@ -1,9 +1,9 @@
 use Rattle.std.proofs.Common.{Option, ap, ◌∙◌, arith}
 use Rattle.atomic_table.specs.Table.{Me}
-use Rattle.am_workers_books.specs.declared.EndBook.{EndBook}
-use Rattle.am_workers_books.specs.Books.{stands_at}
+use Rattle.am_workers_laws.specs.declared.books.EndBook.{EndBook}
+use Rattle.am_workers_laws.specs.Books.Books.{stands_at}
 use Rattle.am_places.specs.Rule.{inside_with, known_at}
-use Rattle.am_workers_invariants.specs.Seats.{EndPass}
+use Rattle.am_workers_laws.specs.Invariants.Seats.{EndPass}
 use Rattle.am_cluster_crew.proofs.Taking.{taken_more}
 use Rattle.am_cluster_crew.proofs.ending.take_out_all.Goals as goal
 

@@ -1,6 +1,6 @@
 use Rattle.std.proofs.Common.{◌≡◌, ℕ, ◌≤◌, Some, length}
 use Rattle.std.specs.Prelude.{slice_get, vec_capacity}
-use Rattle.am_workers_books.specs.declared.EndBook.{EndBook}
+use Rattle.am_workers_laws.specs.declared.books.EndBook.{EndBook}
 use Rattle.am_workers_laws.specs.Ended.{IsTakenOut}
 use Rattle.am_places.specs.Rule.{known_at}
 use Rattle.am_cluster_crew.proofs.ending.take_out_all.Given as goal

@@ -1,5 +1,5 @@
 use Rattle.std.proofs.Common.{inl, inr, ⊎_elim, ◌∙◌, sym}
-use Rattle.am_cluster_crew.proofs.Parts.{none_parted, parts_end, parts_more}
+use Rattle.am_cluster_crew.proofs.CrewParts.{none_parted, parts_end, parts_more}
 use Rattle.am_cluster_crew.proofs.parting.assemble.Goals as goal
 
 pub loop-ended-init : goal.loop-ended-init

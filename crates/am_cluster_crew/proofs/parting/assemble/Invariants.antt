@@ -1,4 +1,4 @@
-use Rattle.am_cluster_crew.proofs.Parts.{ArePartsSoFar}
+use Rattle.am_cluster_crew.proofs.CrewParts.{ArePartsSoFar}
 use Rattle.am_cluster_crew.proofs.parting.assemble.Given as goal
 
 abbrev pub invariant-loop-ended : goal.invariant-loop-ended

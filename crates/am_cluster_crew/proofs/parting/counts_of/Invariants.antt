@@ -1,4 +1,4 @@
-use Rattle.am_machine_node.specs.Shells.{AreCounts}
+use Rattle.am_machine.specs.Node.Shells.{AreCounts}
 use Rattle.am_cluster_crew.proofs.parting.counts_of.Given as goal
 
 abbrev pub invariant-loop-from : goal.invariant-loop-from

@@ -9,7 +9,7 @@ use Rattle.am_cluster_drainer.proofs.frames.count_on_host.Goals.{then-is_open_on
 
 pub ends-preserved : goal.ends-preserved
 ends-preserved g c =
-    let m = g.M.Machine in
+    let m = g.M.Drainable in
     let ends = standings (layout_of (m.scenario c.args.machine.now)) (m.journal c.args.machine.now) in
     let step = c.ends.invariant in
     elim c.if-is_open_on_host.branch [
@@ -25,6 +25,6 @@ ends-preserved g c =
 
 pub returns : goal.returns
 returns g c =
-    let m = g.M.Machine in
+    let m = g.M.Drainable in
     let ends = standings (layout_of (m.scenario c.args.machine.now)) (m.journal c.args.machine.now) in
     omega (arith, c.ends.invariant.all, count_past head_of (is_open_on_host c.args.node) ends c.ends.index (omega (arith, c.ends.invariant.count)))

@@ -11,7 +11,7 @@ use Rattle.am_cluster_drainer.proofs.frames.count_on_host.Given as goal
 -- with those that are still to come they are all
 abbrev pub invariant-ends : goal.invariant-ends
 invariant-ends g l =
-    let m = g.M.Machine in
+    let m = g.M.Drainable in
     let ends = standings (layout_of (m.scenario l.machine)) (m.journal l.machine) in
     record {
       count : l.count ≡ length ends;

@@ -10,7 +10,7 @@ returns-in-Ok-clause-acts g c =
 
 pub returns-in-Err-clause-acts : goal.returns-in-Err-clause-acts
 returns-in-Err-clause-acts g c =
-    let m = g.M.Machine in
+    let m = g.M.Drainable in
     let s = m.scenario c.args.machine.now in
     let layout = layout_of s in
     let past = m.journal c.args.machine.now in

@@ -8,14 +8,14 @@ use Rattle.am_cluster_drainer.proofs.frames.first_head.Goals as goal
 
 pub returns-then-passes-clause-value : goal.returns-then-passes-clause-value
 returns-then-passes-clause-value g c =
-    let m = g.M.Machine in
+    let m = g.M.Drainable in
     let ends = standings (layout_of (m.scenario c.args.machine.now)) (m.journal c.args.machine.now) in
     sym (read_here head_of (passes_head c.args.test) ends c.ends.index c.head-head.result c.head-head.ensures.value (sym c.passes.ensures ∙ c.if-passes.true))
     ∙ c.ends.invariant.first
 
 pub ends-preserved : goal.ends-preserved
 ends-preserved g c =
-    let m = g.M.Machine in
+    let m = g.M.Drainable in
     let ends = standings (layout_of (m.scenario c.args.machine.now)) (m.journal c.args.machine.now) in
     record {
       count = c.ends.invariant.count;
@@ -25,6 +25,6 @@ ends-preserved g c =
 
 pub returns-clause-value : goal.returns-clause-value
 returns-clause-value g c =
-    let m = g.M.Machine in
+    let m = g.M.Drainable in
     let ends = standings (layout_of (m.scenario c.args.machine.now)) (m.journal c.args.machine.now) in
     sym (read_past head_of (passes_head c.args.test) ends c.ends.index (omega (arith, c.ends.invariant.count))) ∙ c.ends.invariant.first

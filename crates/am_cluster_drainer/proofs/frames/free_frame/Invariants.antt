@@ -9,7 +9,7 @@ use Rattle.am_cluster_drainer.proofs.frames.free_frame.Given as goal
 -- the first that is free is still to come
 abbrev pub invariant-frames : goal.invariant-frames
 invariant-frames g l =
-    let m = g.M.Machine in
+    let m = g.M.Drainable in
     let s = m.scenario l.machine in
     let past = m.journal l.machine in
     record {

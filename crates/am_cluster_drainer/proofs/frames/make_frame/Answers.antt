@@ -11,7 +11,7 @@ use Rattle.am_cluster_drainer.proofs.frames.make_frame.Goals as goal
 
 pub returns-then-lacks_frame-clause-acts : goal.returns-then-lacks_frame-clause-acts
 returns-then-lacks_frame-clause-acts g c =
-    let m = g.M.Machine in
+    let m = g.M.Drainable in
     let s = m.scenario c.args.machine.now in
     let past = m.journal c.args.machine.now in
     let layout = layout_of s in
@@ -22,7 +22,7 @@ returns-then-lacks_frame-clause-acts g c =
 
 pub returns-else-lacks_frame-clause-acts : goal.returns-else-lacks_frame-clause-acts
 returns-else-lacks_frame-clause-acts g c =
-    let m = g.M.Machine in
+    let m = g.M.Drainable in
     let s = m.scenario c.args.machine.now in
     let past = m.journal c.args.machine.now in
     let layout = layout_of s in

@@ -7,7 +7,7 @@ use Rattle.am_cluster_drainer.proofs.frames.page_out_spare.Goals as goal
 
 pub returns-in-Some-clause-acts : goal.returns-in-Some-clause-acts
 returns-in-Some-clause-acts g c =
-    let m = g.M.Machine in
+    let m = g.M.Drainable in
     let s = m.scenario c.args.machine.now in
     let past = m.journal c.args.machine.now in
     let layout = layout_of s in
@@ -17,7 +17,7 @@ returns-in-Some-clause-acts g c =
 
 pub returns-in-None-clause-acts : goal.returns-in-None-clause-acts
 returns-in-None-clause-acts g c =
-    let m = g.M.Machine in
+    let m = g.M.Drainable in
     let s = m.scenario c.args.machine.now in
     let past = m.journal c.args.machine.now in
     let layout = layout_of s in

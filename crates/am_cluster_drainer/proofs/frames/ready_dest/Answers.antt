@@ -9,7 +9,7 @@ use Rattle.am_cluster_drainer.proofs.frames.ready_dest.Goals as goal
 
 pub returns-then-is_needed-clause-acts : goal.returns-then-is_needed-clause-acts
 returns-then-is_needed-clause-acts g c =
-    let m = g.M.Machine in
+    let m = g.M.Drainable in
     let s = m.scenario c.args.machine.now in
     let past = m.journal c.args.machine.now in
     let layout = layout_of s in
@@ -19,7 +19,7 @@ returns-then-is_needed-clause-acts g c =
 
 pub returns-else-is_needed-clause-acts : goal.returns-else-is_needed-clause-acts
 returns-else-is_needed-clause-acts g c =
-    let m = g.M.Machine in
+    let m = g.M.Drainable in
     let s = m.scenario c.args.machine.now in
     let past = m.journal c.args.machine.now in
     let layout = layout_of s in
@@ -29,7 +29,7 @@ returns-else-is_needed-clause-acts g c =
 
 pub returns-in-None-clause-acts : goal.returns-in-None-clause-acts
 returns-in-None-clause-acts g c =
-    let m = g.M.Machine in
+    let m = g.M.Drainable in
     let s = m.scenario c.args.machine.now in
     let past = m.journal c.args.machine.now in
     let layout = layout_of s in

@@ -9,7 +9,7 @@ use Rattle.am_cluster_drainer.proofs.frames.spare.Goals as goal
 
 pub returns-then-kept-found-clause-value : goal.returns-then-kept-found-clause-value
 returns-then-kept-found-clause-value g c =
-    let m = g.M.Machine in
+    let m = g.M.Drainable in
     let s = m.scenario c.args.machine.now in
     let past = m.journal c.args.machine.now in
     let layout = layout_of s in
@@ -19,7 +19,7 @@ returns-then-kept-found-clause-value g c =
 
 pub returns-else-kept-found-clause-value : goal.returns-else-kept-found-clause-value
 returns-else-kept-found-clause-value g c =
-    let m = g.M.Machine in
+    let m = g.M.Drainable in
     let s = m.scenario c.args.machine.now in
     let past = m.journal c.args.machine.now in
     let layout = layout_of s in

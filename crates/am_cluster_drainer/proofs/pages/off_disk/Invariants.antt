@@ -7,7 +7,7 @@ use Rattle.am_cluster_drainer.proofs.pages.off_disk.Given as goal
 -- what is left makes of the journal what all was to make of the first one
 abbrev pub invariant-page_ins : goal.invariant-page_ins
 invariant-page_ins g l =
-    let m = g.M.Machine in
+    let m = g.M.Drainable in
     let layout = layout_of (m.scenario l.fn.machine) in
     record {
       scenario : m.scenario l.machine ≡ m.scenario l.fn.machine;

@@ -9,7 +9,7 @@ use Rattle.am_cluster_drainer.proofs.rules.first_request.Given as goal
 -- the first that finds room is still to come
 abbrev pub invariant-ends : goal.invariant-ends
 invariant-ends g l =
-    let m = g.M.Machine in
+    let m = g.M.Drainable in
     let ends = standings (layout_of (m.scenario l.machine)) (m.journal l.machine) in
     record {
       count : l.count ≡ length ends;

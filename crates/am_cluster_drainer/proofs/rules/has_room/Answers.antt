@@ -7,7 +7,7 @@ use Rattle.am_cluster_drainer.proofs.rules.has_room.Goals as goal
 
 pub returns-in-Some : goal.returns-in-Some
 returns-in-Some g c =
-    let m = g.M.Machine in
+    let m = g.M.Drainable in
     let layout = layout_of (m.scenario c.args.machine.now) in
     let past = m.journal c.args.machine.now in
     c.is_roomy.ensures ∙ (ap (λ h. h.closed || nat_lt c.received_requests.result 16) c.head_by.ensures
@@ -16,5 +16,5 @@ returns-in-Some g c =
 
 pub returns-in-None : goal.returns-in-None
 returns-in-None g c =
-    let m = g.M.Machine in
+    let m = g.M.Drainable in
     no_room_at (layout_of (m.scenario c.args.machine.now)) (m.journal c.args.machine.now) c.args.end c.in-None.ensures.value

@@ -1,6 +1,6 @@
 use Rattle.std.proofs.Common.{sym, ◌∙◌, ap, arith, Some, None}
 use Rattle.std.specs.Prelude.{if◌then◌else◌}
-use Rattle.am_office.specs.declared.Event.TheVariants as Events
+use Rattle.am_office_entries.specs.declared.Event.TheVariants as Events
 use Rattle.am_model_drain.specs.declared.Turn.TheVariants as Turns
 use Rattle.am_model_drain.specs.Rules as rules
 use Rattle.am_cluster_drainer.proofs.Ranges.{rest_all, rest_some, rest_none, rest_past}
@@ -8,14 +8,14 @@ use Rattle.am_cluster_drainer.proofs.rules.time_out_to.Goals as goal
 
 pub channels-init : goal.channels-init
 channels-init g c =
-    let m = g.M.Machine in
+    let m = g.M.Drainable in
     let s = m.scenario c.args.machine.now in
     let past = m.journal c.args.machine.now in
     record { count = c.channels-channels.ensures; first = rest_all (rules.time_out c.args.node c.args.peer past) _ s.channels c.channels-channels.ensures }
 
 pub returns-then-is_bound-clause-turn : goal.returns-then-is_bound-clause-turn
 returns-then-is_bound-clause-turn g c =
-    let m = g.M.Machine in
+    let m = g.M.Drainable in
     let s = m.scenario c.args.machine.now in
     let past = m.journal c.args.machine.now in
     sym (rest_some (rules.time_out c.args.node c.args.peer past) c.channels.channel _ _ (omega arith)
@@ -24,7 +24,7 @@ returns-then-is_bound-clause-turn g c =
 
 pub channels-preserved : goal.channels-preserved
 channels-preserved g c =
-    let m = g.M.Machine in
+    let m = g.M.Drainable in
     let s = m.scenario c.args.machine.now in
     let past = m.journal c.args.machine.now in
     record {
@@ -36,7 +36,7 @@ channels-preserved g c =
 
 pub returns-clause-turn : goal.returns-clause-turn
 returns-clause-turn g c =
-    let m = g.M.Machine in
+    let m = g.M.Drainable in
     let s = m.scenario c.args.machine.now in
     let past = m.journal c.args.machine.now in
     sym (rest_past (rules.time_out c.args.node c.args.peer past) c.channels.channel _ (omega arith)) ∙ c.channels.invariant.first

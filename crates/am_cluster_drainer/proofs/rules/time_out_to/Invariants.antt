@@ -6,7 +6,7 @@ use Rattle.am_cluster_drainer.proofs.rules.time_out_to.Given as goal
 -- the first that is given is still to come
 abbrev pub invariant-channels : goal.invariant-channels
 invariant-channels g l =
-    let m = g.M.Machine in
+    let m = g.M.Drainable in
     let s = m.scenario l.machine in
     let past = m.journal l.machine in
     record {

@@ -1,4 +1,4 @@
-use Rattle.am_office.specs.declared.Event.TheVariants as Events
+use Rattle.am_office_entries.specs.declared.Event.TheVariants as Events
 use Rattle.am_model_drain.specs.Made.{after_event}
 use Rattle.am_model_scripts.specs.Layout.{layout_of}
 use Rattle.am_cluster_drainer.proofs.Acting.{acts_then, acts_less, extends_one}

@@ -1,7 +1,7 @@
 use Rattle.std.proofs.Common.{rules, ◌≡◌, ℕ, Some, List, length, sym, subst, arith}
 use Rattle.std.specs.Prelude.{slice_get}
-use Rattle.am_cluster_nodes.specs.Openings.{EndSeat}
-use Rattle.am_cluster_nodes.proofs.Lists.{none_left}
+use Rattle.am_cluster_opening.specs.Node.Openings.{EndSeat}
+use Rattle.am_cluster_opening.proofs.Lists.{none_left}
 use Rattle.am_cluster_opening.proofs.Seated.{AreSeating, seating_begins, seating_ends, seating_low, seating_more}
 use Rattle.am_cluster_opening.proofs.making.open_threads.Goals as goal
 

@@ -1,7 +1,7 @@
 use Rattle.std.proofs.Common.{◌≡◌, Option, List, [], ◌∷◌, ◌++◌, length, ap, ◌∙◌, arith}
 use Rattle.std.proofs.lemmas.List.{length_push}
 use Rattle.std.specs.Option.{option_to_list}
-use Rattle.am_cluster_nodes.specs.Openings.{EndSeat}
+use Rattle.am_cluster_opening.specs.Node.Openings.{EndSeat}
 use Rattle.am_cluster_opening.proofs.making.seat_all.Goals as goal
 
 pub open_threads-requires : goal.open_threads-requires

@@ -2,7 +2,7 @@ use Rattle.std.specs.Prelude.{slice_get, slice_index_or}
 use Rattle.std.proofs.Common.{ℕ, ◌∙◌, ap, map, subst, arith}
 use Rattle.am_model.specs.History.{IsHistory}
 use Rattle.am_model.specs.Layout.{Layout}
-use Rattle.am_laws_drain_steps.proofs.Receipts.{dues_are_counted}
+use Rattle.am_laws_runs.proofs.Receipts.{dues_are_counted}
 use Rattle.am_cluster_scripted.specs.Links.{nothing, released_in}
 use Rattle.am_cluster_scripted.proofs.Due.{due_counted, due_read}
 use Rattle.am_cluster_scripted.proofs.emissions.due_on.Goals as goal

@@ -1,5 +1,5 @@
 use Rattle.std.proofs.Common.{◌<◌, ◌∙◌, map}
-use Rattle.am_office.specs.Entries.{emitted_of}
+use Rattle.am_office_entries.specs.Entries.{emitted_of}
 use Rattle.am_cluster_scripted.specs.Links.{released_in}
 use Rattle.am_names.specs.declared.Way.{Way}
 use Rattle.am_cluster_scripted.proofs.Ways.{fed_nowhere, fed_there, holds_on}

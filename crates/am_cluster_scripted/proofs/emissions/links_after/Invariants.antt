@@ -1,5 +1,5 @@
 use Rattle.std.proofs.Common.{map, take}
-use Rattle.am_office_journal.specs.Behind.{entries_behind}
+use Rattle.am_office_entries.specs.Logged.Behind.{entries_behind}
 use Rattle.am_cluster_scripted.specs.Links.{AreFed, IsSpared, released_in}
 use Rattle.am_cluster_scripted.proofs.emissions.links_after.Given as goal
 

@@ -2,8 +2,8 @@ use Rattle.std.proofs.Common.{subst}
 use Rattle.am_model.specs.History.{IsHistory}
 use Rattle.am_model.specs.Layout.{Layout}
 use Rattle.am_model_drain.proofs.Turns.{turn_by}
-use Rattle.am_laws_drain_ends.proofs.Turning.{by_rule}
-use Rattle.am_laws_drain_steps.specs.Enabled.{IsOfRun}
+use Rattle.am_laws_runs.proofs.EndTurns.{by_rule}
+use Rattle.am_laws_runs.specs.Turns.Enabled.{IsOfRun}
 use Rattle.am_cluster_scripted.proofs.firsts.turn_falls.Goals as goal
 
 pub returns : goal.returns

@@ -2,7 +2,7 @@ use Rattle.std.specs.Prelude.{slice_set}
 use Rattle.std.proofs.Common.{◌≡◌, map, sym, ap, ◌∙◌, arith}
 use Rattle.std.proofs.lemmas.List.{length-set}
 use Rattle.am_lemmas.proofs.Lists.{slice_get-set_elsewhere}
-use Rattle.am_machine_index.proofs.Lists.{index_map, map_set}
+use Rattle.am_machine_journal.proofs.Lists.{index_map, map_set}
 use Rattle.am_cluster_scripted.specs.Links.{fed, nothing, released_in}
 use Rattle.am_cluster_scripted.proofs.Rooms.{room_elsewhere}
 use Rattle.am_cluster_scripted.proofs.links.feed_at.Goals as goal

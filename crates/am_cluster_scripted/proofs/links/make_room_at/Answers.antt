@@ -1,7 +1,7 @@
 use Rattle.std.proofs.Common.{◌≡◌, map, sym, ap, ◌∙◌, arith}
 use Rattle.std.proofs.lemmas.List.{length-map}
 use Rattle.am_lemmas.proofs.Lists.{slice_get-set_elsewhere}
-use Rattle.am_machine_index.proofs.Lists.{index_map, map_set, set_same}
+use Rattle.am_machine_journal.proofs.Lists.{index_map, map_set, set_same}
 use Rattle.am_cluster_scripted.specs.Links.{released_in}
 use Rattle.am_cluster_scripted.proofs.Rooms.{on_ok, room_written}
 use Rattle.am_cluster_scripted.proofs.links.make_room_at.Goals as goal

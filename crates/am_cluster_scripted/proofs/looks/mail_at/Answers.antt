@@ -3,8 +3,8 @@ use Rattle.am_model.specs.History.{IsHistory}
 use Rattle.am_model.specs.Layout.{Layout}
 use Rattle.am_model_scripts.specs.Layout.{layout_of}
 use Rattle.am_model_scripts.proofs.Lawful.{lawful_layout}
-use Rattle.am_laws_drain_steps.proofs.Away.{away_is_settled}
-use Rattle.am_laws_drain_steps.proofs.Enabled.{of_packets}
+use Rattle.am_laws_runs.proofs.Away.{away_is_settled}
+use Rattle.am_laws_runs.proofs.Enabled.{of_packets}
 use Rattle.am_cluster_scripted.proofs.Looking.{mail_read, quiet_at, seat_at, seen_in}
 use Rattle.am_cluster_scripted.proofs.looks.mail_at.Goals as goal
 

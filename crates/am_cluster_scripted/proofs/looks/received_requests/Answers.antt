@@ -1,4 +1,4 @@
-use Rattle.am_laws_drain_steps.proofs.Away.{away_is_settled}
+use Rattle.am_laws_runs.proofs.Away.{away_is_settled}
 use Rattle.am_cluster_scripted.proofs.Looking.{requests_at}
 use Rattle.am_cluster_scripted.proofs.looks.received_requests.Goals as goal
 

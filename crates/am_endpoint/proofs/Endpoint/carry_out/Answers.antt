@@ -1,5 +1,5 @@
 use Rattle.std.proofs.Common.{ap}
-use Rattle.am_office.specs.declared.Event.{Event}
+use Rattle.am_office_entries.specs.declared.Event.{Event}
 use Rattle.am_model.proofs.Order.{order_carried}
 use Rattle.am_endpoint.specs.Events.{keeps_flights}
 use Rattle.am_endpoint.specs.View.{state_after}

@@ -1,5 +1,5 @@
 use Rattle.std.proofs.Common.{Bool, sym, ap, ◌∙◌}
-use Rattle.am_office.specs.declared.Outcome.TheVariants as Out
+use Rattle.am_office_entries.specs.declared.Outcome.TheVariants as Out
 use Rattle.am_model.proofs.Order.{order_paged_in}
 use Rattle.am_endpoint.specs.Held.{with_wanted}
 use Rattle.am_endpoint.specs.View.{state_after}

@@ -1,7 +1,7 @@
 use Rattle.std.proofs.Common.{◌≡◌, ◌<◌, [], ◌∷◌, ◌++◌, length, sym, subst, arith}
 use Rattle.std.proofs.lemmas.Grind.{common_steps}
-use Rattle.am_office.specs.declared.Outcome.TheVariants as Out
-use Rattle.am_office.specs.declared.Place.TheVariants.{Host}
+use Rattle.am_office_entries.specs.declared.Outcome.TheVariants as Out
+use Rattle.am_office_entries.specs.declared.Place.TheVariants.{Host}
 use Rattle.am_model.proofs.Order.{order_paged_in}
 use Rattle.am_endpoint.specs.View.{EndpointView, state_after}
 use Rattle.am_endpoint.specs.declared.held.Held.TheVariants.{Here}

@@ -1,5 +1,5 @@
 use Rattle.std.proofs.Common.{◌≡◌, ℕ, Some, ◌∷◌, [], ◌++◌, List, ◌∙◌, ap, sym}
-use Rattle.am_office.specs.declared.Entry.{Entry}
+use Rattle.am_office_entries.specs.declared.Entry.{Entry}
 use Rattle.am_channel.specs.declared.sending.TimedOut.TheVariants as Times
 use Rattle.am_channel.specs.Calls.{TimeOut, after}
 use Rattle.am_model_parts.specs.declared.work.Work.TheVariants as Works

@@ -1,6 +1,6 @@
 use Rattle.std.proofs.Common.{◌<◌, ◌≤◌, length, ◌+◌, ◌*◌, arith, rules}
 use Rattle.std.proofs.lemmas.List.Sums.{count_by-le-length}
-use Rattle.am_office.specs.declared.Entry.{Entry}
+use Rattle.am_office_entries.specs.declared.Entry.{Entry}
 use Rattle.am_model.specs.Channels.{binds, sequence}
 use Rattle.am_model_parts.specs.Interface.{channel_in}
 use Rattle.am_iface.specs.View.{own}

@@ -1,7 +1,7 @@
 use Rattle.std.specs.Prelude.{◌==◌}
 use Rattle.std.proofs.Common.{◌≡◌, Bool, true, false, length, Some, None, sym, ap, ◌∙◌, if◌then◌else◌}
 use Rattle.am_names.specs.declared.NodeId.{NodeId}
-use Rattle.am_office.specs.declared.Part.TheVariants as Parts
+use Rattle.am_office_entries.specs.declared.Part.TheVariants as Parts
 use Rattle.am_iface.proofs.Refusing.{full_is}
 use Rattle.am_iface.proofs.Interface.full_here.Goals as goal
 

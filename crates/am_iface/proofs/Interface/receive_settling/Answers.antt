@@ -1,6 +1,6 @@
 use Rattle.std.proofs.Common.{◌∷◌, [], ◌++◌, List, ◌∙◌, ap, refl, sym}
 use Rattle.am_names.specs.declared.Packet.TheVariants as Packets
-use Rattle.am_office.specs.declared.Entry.{Entry}
+use Rattle.am_office_entries.specs.declared.Entry.{Entry}
 use Rattle.am_model_parts.specs.declared.work.Work.TheVariants as Works
 use Rattle.am_model.specs.History.{settle_by}
 use Rattle.am_iface.proofs.Settling as settling

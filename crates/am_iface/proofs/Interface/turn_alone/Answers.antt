@@ -1,6 +1,6 @@
 use Rattle.std.proofs.Common.{◌≡◌, [], ◌∷◌, ◌++◌, None, Some, ap, sym, ◌∙◌}
-use Rattle.am_office.specs.declared.Entry.{Entry}
-use Rattle.am_office.specs.Entries.{emitted_of}
+use Rattle.am_office_entries.specs.declared.Entry.{Entry}
+use Rattle.am_office_entries.specs.Entries.{emitted_of}
 use Rattle.am_model.specs.declared.EntryFault.TheVariants as Faults
 use Rattle.am_model_parts.specs.Interface.{failing_at}
 use Rattle.am_iface.specs.declared.Turned.{Turned}

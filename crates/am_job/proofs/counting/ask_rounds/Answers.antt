@@ -1,4 +1,4 @@
-use Rattle.am_job.proofs.Sent.{all_asked, ask_round}
+use Rattle.am_job.proofs.SentTexts.{all_asked, ask_round}
 use Rattle.am_job.proofs.counting.ask_rounds.Goals as goal
 
 pub loop-round-preserved : goal.loop-round-preserved

@@ -1,5 +1,5 @@
 use Rattle.std.proofs.Common.{[], take}
-use Rattle.am_job_words.specs.Counts.{Tells}
+use Rattle.am_job.specs.Words.Counts.{Tells}
 use Rattle.am_job.specs.Asked.{asked_in_all}
 use Rattle.am_job.proofs.counting.ask_rounds.Given as goal
 

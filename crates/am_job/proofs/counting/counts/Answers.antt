@@ -1,9 +1,9 @@
 use Rattle.std.proofs.Common.{List, [], ap, subst, ◌∙◌}
 use Rattle.am_scenario_types.specs.Lists.{ScenarioLists}
-use Rattle.am_job_words.specs.Counts.{Tells}
+use Rattle.am_job.specs.Words.Counts.{Tells}
 use Rattle.am_job.specs.Asked.{asked_by, asked_in_all}
 use Rattle.am_job.specs.Lists.{JobLists}
-use Rattle.am_job.proofs.Sent.{counts_are}
+use Rattle.am_job.proofs.SentTexts.{counts_are}
 use Rattle.am_job.proofs.counting.counts.Goals as goal
 
 pub returns : goal.returns

@@ -1,6 +1,6 @@
 use Rattle.std.proofs.Common.{ℕ, List, []}
-use Rattle.am_job_words.specs.Counts.{Tells}
-use Rattle.am_job.proofs.Sent.{all_seen, see_round}
+use Rattle.am_job.specs.Words.Counts.{Tells}
+use Rattle.am_job.proofs.SentTexts.{all_seen, see_round}
 use Rattle.am_job.proofs.counting.see_journals.Goals as goal
 
 pub loop-journal-init : goal.loop-journal-init

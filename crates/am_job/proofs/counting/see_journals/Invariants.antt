@@ -1,5 +1,5 @@
 use Rattle.std.proofs.Common.{ℕ, List, [], take}
-use Rattle.am_job_words.specs.Counts.{Tells}
+use Rattle.am_job.specs.Words.Counts.{Tells}
 use Rattle.am_job.specs.Asked.{run_in_all}
 use Rattle.am_job.proofs.counting.see_journals.Given as goal
 

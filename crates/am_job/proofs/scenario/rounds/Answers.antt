@@ -2,7 +2,7 @@ use Rattle.std.proofs.Common.{◌≡◌, ℕ, List, ap, ◌∙◌, length, arith
 use Rattle.am_scenario_types.specs.declared.parts.Form.TheVariants.{Run}
 use Rattle.am_scenario_types.specs.Lawful.{IsLawful, IsOfForm}
 use Rattle.std.proofs.lemmas.List.Elements.{All-push}
-use Rattle.am_job_words.specs.declared.codes.CodedWord.{CodedWord}
+use Rattle.am_job.specs.declared.words.codes.CodedWord.{CodedWord}
 use Rattle.am_job.specs.Rounds.{round_at, round_count}
 use Rattle.am_job.proofs.More.{job_is, made_more}
 use Rattle.am_job.proofs.scenario.rounds.Goals as goal

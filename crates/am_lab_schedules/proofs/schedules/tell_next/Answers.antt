@@ -1,5 +1,5 @@
 use Rattle.std.proofs.Common.{ℕ, ◌<◌}
-use Rattle.am_lab_outcomes.specs.Outcomes.{first_fates}
+use Rattle.am_lab_schedules.specs.Outcomes.Outcomes.{first_fates}
 use Rattle.am_lab_schedules.specs.Told.{AreTold}
 use Rattle.am_lab_schedules.proofs.Seeds.{next_told}
 use Rattle.am_lab_schedules.proofs.schedules.tell_next.Goals as goal

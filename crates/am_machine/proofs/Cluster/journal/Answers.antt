@@ -1,6 +1,6 @@
 use Rattle.std.proofs.Common.{List, map, refl, sym, ap, ◌∙◌, subst}
-use Rattle.am_office.specs.declared.Entry.{Entry}
-use Rattle.am_machine_join.specs.Joined.{AreOne, lists_of}
+use Rattle.am_office_entries.specs.declared.Entry.{Entry}
+use Rattle.am_machine_journal.specs.Merge.Joined.{AreOne, lists_of}
 use Rattle.am_model_merge.specs.Logs.{IsRising}
 use Rattle.am_model_merge.specs.Merged.{entries_of}
 use Rattle.am_model.specs.Layout.{AllAre}

@@ -1,6 +1,6 @@
 use Rattle.std.proofs.Common.{◌≡◌, [], ◌∷◌, ◌++◌, List, length, map, ap, ◌∙◌, arith}
 use Rattle.std.specs.List.{filter}
-use Rattle.am_office.specs.Entries.{touches_node}
+use Rattle.am_office_entries.specs.Entries.{touches_node}
 use Rattle.am_iface.specs.View.{InterfaceView}
 use Rattle.am_driver_moves.specs.Logs.{kept}
 use Rattle.am_machine.specs.Kept.{journal_by, layout_in}

@@ -1,6 +1,6 @@
 use Rattle.std.proofs.Common.{sym, ap, ◌∙◌}
-use Rattle.am_office.specs.declared.Event.{Event}
-use Rattle.am_office.specs.Entries.{node_touched}
+use Rattle.am_office_entries.specs.declared.Event.{Event}
+use Rattle.am_office_entries.specs.Entries.{node_touched}
 use Rattle.am_machine.specs.Lasts.{end_named}
 use Rattle.am_machine.proofs.LastMade as lasts
 use Rattle.am_machine.proofs.Cluster.last_of.Goals as goal

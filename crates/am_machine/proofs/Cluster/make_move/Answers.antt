@@ -2,15 +2,15 @@ use Rattle.std.specs.Prelude.{slice_set}
 use Rattle.std.proofs.Common.{◌≡◌, ℕ, None, arith, leb-false, ◌+◌, ◌++◌, ◌∷◌, [], List, map, length, position, refl, sym, ap, ◌∙◌, subst}
 use Rattle.std.specs.Prelude.{Result, Ok}
 use Rattle.am_names.specs.declared.NoMemory.{NoMemory}
-use Rattle.am_office.specs.declared.Entry.{Entry}
+use Rattle.am_office_entries.specs.declared.Entry.{Entry}
 use Rattle.am_model.specs.History.{is_in_range}
 use Rattle.am_swap_device.specs.Memory.{Store}
 use Rattle.am_model_drain.specs.Made.{next_stamp}
 use Rattle.am_driver_moves.specs.Logs.{kept}
 use Rattle.am_machine.specs.Ends.{is_of}
 use Rattle.am_machine.specs.Kept.{IsIndexed, journal_by, layout_in}
-use Rattle.am_office.specs.Entries.{emitted_of}
-use Rattle.am_machine_index.specs.View.{AreNodes}
+use Rattle.am_office_entries.specs.Entries.{emitted_of}
+use Rattle.am_machine_journal.specs.Index.View.{AreNodes}
 use Rattle.am_driver_moves.specs.Moves.{IsMovedBy, Moves, outcome_with}
 use Rattle.am_machine.specs.View.{ClusterView}
 use Rattle.am_machine.proofs.Applied as applied

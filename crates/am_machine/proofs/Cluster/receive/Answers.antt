@@ -1,5 +1,5 @@
 use Rattle.std.proofs.Common.{◌≡◌, false, refl, sym, ap, ◌∙◌, subst, arith}
-use Rattle.am_office.specs.declared.Event.{Event}
+use Rattle.am_office_entries.specs.declared.Event.{Event}
 use Rattle.am_model.specs.History.{IsHistory, is_in_range}
 use Rattle.am_model_scripts.specs.Layout.{is_direct}
 use Rattle.am_machine.specs.View.{Makes, ClusterView}

@@ -1,7 +1,7 @@
 use Rattle.std.proofs.Common.{◌≡◌, true, map, Some, None, position, sym, ap, ◌∙◌}
-use Rattle.am_office.specs.declared.Condition.TheVariants as Needs
-use Rattle.am_office.specs.declared.Event.TheVariants as Events
-use Rattle.am_office.specs.declared.Part.TheVariants as Parts
+use Rattle.am_office_entries.specs.declared.Condition.TheVariants as Needs
+use Rattle.am_office_entries.specs.declared.Event.TheVariants as Events
+use Rattle.am_office_entries.specs.declared.Part.TheVariants as Parts
 use Rattle.am_model.specs.History.{is_in_range}
 use Rattle.am_model.specs.Steps.{LogFull, NotEnabled}
 use Rattle.am_driver_moves.specs.Logs.{kept}

@@ -1,6 +1,6 @@
 use Rattle.std.specs.Prelude.{option_map}
 use Rattle.std.proofs.Common.{◌≡◌, map, position, Some, None, sym, ap, ◌∙◌}
-use Rattle.am_office.specs.declared.Part.TheVariants as Parts
+use Rattle.am_office_entries.specs.declared.Part.TheVariants as Parts
 use Rattle.am_model.specs.History.{failing, is_in_range}
 use Rattle.am_model.specs.Steps.{LogFull, NotEnabled}
 use Rattle.am_driver_moves.specs.Logs.{kept}

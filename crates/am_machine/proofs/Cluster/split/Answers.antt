@@ -1,17 +1,17 @@
 use Rattle.std.proofs.Common.{◌≡◌, List, false, map, refl, ap, ◌∙◌, sym, subst, arith}
 use Rattle.am_model.specs.Layout.{node_at}
 use Rattle.am_endpoint.specs.View.{EndpointView}
-use Rattle.am_machine_node.specs.Parts.{all_logs, journal_of, parts_of}
-use Rattle.am_machine_node.specs.Shells.{AreShells}
-use Rattle.am_machine_index.specs.View.{received_in, receipts}
+use Rattle.am_machine.specs.Node.Parts.{all_logs, journal_of, parts_of}
+use Rattle.am_machine.specs.Node.Shells.{AreShells}
+use Rattle.am_machine_journal.specs.Index.View.{received_in, receipts}
 use Rattle.am_driver_moves.specs.Logs.{kept}
 use Rattle.am_machine.specs.Kept.{journal_by, layout_in}
 use Rattle.am_machine.specs.Parts.{AreNodeParts}
 use Rattle.am_machine.specs.View.{ClusterView}
-use Rattle.am_machine_index.proofs.Growing.{received_is}
+use Rattle.am_machine_journal.proofs.Growing.{received_is}
 use Rattle.am_machine.proofs.Looks.{receipts_bounded}
 use Rattle.am_machine.proofs.PartsMade.{IsTakenApart, are_parts, has_room, same_lengths}
-use Rattle.am_machine_join.proofs.OneJournal.{merged_is}
+use Rattle.am_machine_journal.proofs.OneJournal.{merged_is}
 use Rattle.am_machine.proofs.PartLogs.{have_just}
 use Rattle.am_machine.proofs.Cluster.split.Goals as goal
 

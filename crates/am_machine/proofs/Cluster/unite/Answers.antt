@@ -3,16 +3,16 @@ use Rattle.std.specs.Prelude.{vec_capacity}
 use Rattle.std.specs.List.{All}
 use Rattle.am_model_scripts.specs.Layout.{is_direct, layout_of, setting_of}
 use Rattle.am_model_scripts.proofs.Lawful.{lawful_layout}
-use Rattle.am_machine_join.specs.Joined.{AreOne}
+use Rattle.am_machine_journal.specs.Merge.Joined.{AreOne}
 use Rattle.am_endpoint.specs.View.{EndpointView}
-use Rattle.am_machine_index.specs.View.{IsIndexOf}
+use Rattle.am_machine_journal.specs.Index.View.{IsIndexOf}
 use Rattle.am_model_merge.specs.Logs.{IsRising}
 use Rattle.am_model_merge.specs.Merged.{entries_of}
 use Rattle.am_model.specs.Layout.{AllAre}
-use Rattle.am_machine_node.specs.declared.NodePart.{NodePart}
-use Rattle.am_machine_node.specs.Gathered.{AreDeclared}
-use Rattle.am_machine_node.specs.Packets.{GoesWithin}
-use Rattle.am_machine_node.specs.Parts.{all_logs, journal_of}
+use Rattle.am_machine.specs.declared.node.NodePart.{NodePart}
+use Rattle.am_machine.specs.Node.Gathered.{AreDeclared}
+use Rattle.am_machine.specs.Node.Packets.{GoesWithin}
+use Rattle.am_machine.specs.Node.Parts.{all_logs, journal_of}
 use Rattle.am_scenario_types.specs.declared.parts.EndLine.{EndLine}
 use Rattle.am_scenario_types.specs.Lists.{ScenarioLists}
 use Rattle.am_machine.specs.declared.settings.Settings.{Settings}

@@ -1,10 +1,10 @@
 use Rattle.std.specs.Prelude.{slice_set, Ok}
 use Rattle.std.proofs.Common.{◌≡◌, ◌++◌, ◌∷◌, [], false, true, map, length, position, refl, sym, ap, ◌∙◌, arith, subst}
-use Rattle.am_office.specs.declared.Event.{Event}
-use Rattle.am_office.specs.declared.Event.TheVariants as Events
-use Rattle.am_office.specs.Entries.{emitted_in}
+use Rattle.am_office_entries.specs.declared.Event.{Event}
+use Rattle.am_office_entries.specs.declared.Event.TheVariants as Events
+use Rattle.am_office_entries.specs.Entries.{emitted_in}
 use Rattle.am_model.specs.History.{is_in_range}
-use Rattle.am_machine_index.specs.View.{AreNodes, greatest_stamp}
+use Rattle.am_machine_journal.specs.Index.View.{AreNodes, greatest_stamp}
 use Rattle.am_driver_moves.specs.Logs.{kept}
 use Rattle.am_machine.specs.Ends.{is_of}
 use Rattle.am_machine.specs.Kept.{journal_by, layout_in}

@@ -1,6 +1,6 @@
 use Rattle.std.proofs.Common.{◌≡◌, ◌++◌, map, take}
-use Rattle.am_machine_join.specs.Joined.{lists_of}
-use Rattle.am_machine_node.specs.Parts.{log_of}
+use Rattle.am_machine_journal.specs.Merge.Joined.{lists_of}
+use Rattle.am_machine.specs.Node.Parts.{log_of}
 use Rattle.am_machine.proofs.logs.add_ends.Given as goal
 
 abbrev pub invariant-loop-end : goal.invariant-loop-end

@@ -1,5 +1,5 @@
 use Rattle.std.proofs.Common.{◌≡◌, ◌++◌, take}
-use Rattle.am_machine_join.specs.Joined.{lists_of}
+use Rattle.am_machine_journal.specs.Merge.Joined.{lists_of}
 use Rattle.am_machine.specs.Kept.{interface_logs}
 use Rattle.am_machine.proofs.logs.add_interfaces.Given as goal
 

@@ -1,13 +1,13 @@
 use Rattle.std.specs.Prelude.{Err, IfSome}
 use Rattle.std.proofs.Common.{◌≡◌, ◌<◌, [], ◌∷◌, ◌++◌, Option, sym, ap, ◌∙◌, subst, arith}
 use Rattle.am_names.specs.declared.NodeId.{NodeId}
-use Rattle.am_office.specs.declared.Entry.{Entry}
-use Rattle.am_office.specs.declared.Place.TheVariants.{Host}
+use Rattle.am_office_entries.specs.declared.Entry.{Entry}
+use Rattle.am_office_entries.specs.declared.Place.TheVariants.{Host}
 use Rattle.am_model.specs.Endpoint.{State, fresh}
 use Rattle.am_model.specs.Parts.{last_stamp}
 use Rattle.am_iface.specs.Turns.{entry_by, stamp_after}
 use Rattle.am_iface.specs.View.{InterfaceView, own}
-use Rattle.am_machine_index.specs.View.{CanCount, IsIndexOf, Readings}
+use Rattle.am_machine_journal.specs.Index.View.{CanCount, IsIndexOf, Readings}
 use Rattle.am_model.specs.declared.EntryFault.{EntryFault}
 use Rattle.am_machine.specs.Turned.{TurnsAlone, entry_of_work}
 use Rattle.am_machine.specs.Ways.{GoesTo}

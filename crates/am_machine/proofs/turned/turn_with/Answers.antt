@@ -1,11 +1,11 @@
 use Rattle.std.specs.Prelude.{Err, max}
 use Rattle.std.proofs.Common.{◌≡◌, [], ◌∷◌, ◌++◌, sym, ap, ◌∙◌, subst, arith}
 use Rattle.am_endpoint.specs.View.{state_after}
-use Rattle.am_office.specs.declared.Entry.{Entry}
+use Rattle.am_office_entries.specs.declared.Entry.{Entry}
 use Rattle.am_iface.specs.Turns.{entry_by, stamp_after}
 use Rattle.am_iface.specs.View.{InterfaceView}
 use Rattle.am_model.specs.Parts.{last_stamp}
-use Rattle.am_machine_index.specs.View.{CanCount, IsIndexOf, Readings}
+use Rattle.am_machine_journal.specs.Index.View.{CanCount, IsIndexOf, Readings}
 use Rattle.am_model.specs.declared.EntryFault.{EntryFault}
 use Rattle.am_machine.specs.Turned.{TurnsWith, entry_of_work}
 use Rattle.am_machine.proofs.LastMade as lasts

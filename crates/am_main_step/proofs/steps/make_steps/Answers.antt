@@ -7,9 +7,9 @@ use Rattle.am_main_step.specs.Answer.{Makes}
 use Rattle.am_main_step.specs.declared.faults.StepFault.{StepFault}
 use Rattle.am_model.specs.Steps.{made}
 use Rattle.std.proofs.Common.{refl, sym, subst, ap, ◌∙◌}
-use Rattle.am_office.specs.declared.Actor.TheVariants as Actors
-use Rattle.am_office.specs.declared.Call.TheVariants as Calls
-use Rattle.am_office.specs.declared.Event.TheVariants as Events
+use Rattle.am_office_entries.specs.declared.Actor.TheVariants as Actors
+use Rattle.am_office_entries.specs.declared.Call.TheVariants as Calls
+use Rattle.am_office_entries.specs.declared.Event.TheVariants as Events
 use Rattle.am_model.specs.History.{is_in_range}
 use Rattle.am_model.specs.Layout.{Layout}
 use Rattle.am_scenario_types.specs.declared.parts.StepLine.{StepLine}

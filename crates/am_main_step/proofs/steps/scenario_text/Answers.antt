@@ -3,7 +3,7 @@ use Rattle.am_scenario_types.specs.declared.parts.StepLine.{StepLine}
 use Rattle.am_scenario_types.specs.Lists.{ScenarioLists}
 use Rattle.am_model_scripts.specs.Layout.{events_of, layout_of}
 use Rattle.am_model_scripts.proofs.Lawful.{steps_in_range}
-use Rattle.am_model_steps.specs.Laws.{AreInRange}
+use Rattle.am_model_scripts.specs.Steps.Laws.{AreInRange}
 use Rattle.am_model.specs.Layout.{Layout}
 use Rattle.am_main_step.proofs.steps.scenario_text.Goals as goal
 

@@ -1,6 +1,6 @@
 use Rattle.std.proofs.Common.{◌≡◌, ◌++◌, take, List}
 use Rattle.std.specs.List.{flat_map}
-use Rattle.am_office.specs.declared.Entry.{Entry}
+use Rattle.am_office_entries.specs.declared.Entry.{Entry}
 use Rattle.am_office_report.specs.Report.{end_part}
 use Rattle.am_office_report.specs.Tables.{AreRuns}
 use Rattle.am_office_report.proofs.reports.put_ends.Given as goal

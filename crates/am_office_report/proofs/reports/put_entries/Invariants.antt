@@ -1,7 +1,7 @@
 use Rattle.std.proofs.Common.{◌≡◌, ◌++◌, take}
 use Rattle.std.specs.List.{flat_map}
-use Rattle.am_office_journal.specs.Behind.{entries_behind}
-use Rattle.am_office_lines.specs.Lines.{line_of}
+use Rattle.am_office_entries.specs.Logged.Behind.{entries_behind}
+use Rattle.am_office_text.specs.EntryLines.Lines.{line_of}
 use Rattle.am_office_report.proofs.reports.put_entries.Given as goal
 
 abbrev pub invariant-loop-entry : goal.invariant-loop-entry

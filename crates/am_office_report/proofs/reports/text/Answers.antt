@@ -1,5 +1,5 @@
 use Rattle.std.proofs.Common.{◌≡◌, ℕ, List, [], ◌++◌, refl}
-use Rattle.am_office_journal.specs.Behind.{entries_behind}
+use Rattle.am_office_entries.specs.Logged.Behind.{entries_behind}
 use Rattle.am_office_report.specs.Report.{report}
 use Rattle.am_office_report.proofs.reports.text.Goals as goal
 

@@ -1,7 +1,7 @@
 use Rattle.std.proofs.Common.{◌≡◌, ◌++◌, [], ◌∷◌, Some, None, sym, ap, ◌∙◌}
 use Rattle.std.proofs.lemmas.List.{append-nil}
-use Rattle.am_scenario_draft.specs.Said.{end_of}
-use Rattle.am_scenario_draft.specs.Drafts.{said}
+use Rattle.am_scenario.specs.Drafts.Said.{end_of}
+use Rattle.am_scenario.specs.Drafts.Drafts.{said}
 use Rattle.am_scenario.proofs.Declared.{ends_more}
 use Rattle.am_scenario.proofs.finish.ends_below.Goals as goal
 use Rattle.am_scenario.proofs.finish.ends_below.Goals.{in-Some+in_ok-push, in_default}

@@ -1,5 +1,5 @@
 use Rattle.std.proofs.Common.{◌≡◌}
-use Rattle.am_scenario_draft.specs.Drafts.{said}
+use Rattle.am_scenario.specs.Drafts.Drafts.{said}
 use Rattle.am_scenario.specs.Grammar.{ends_below}
 use Rattle.am_scenario.proofs.finish.ends_below.Given as goal
 

@@ -1,5 +1,5 @@
 use Rattle.std.proofs.Common.{◌≡◌}
-use Rattle.am_scenario_draft.specs.Drafts.{said}
+use Rattle.am_scenario.specs.Drafts.Drafts.{said}
 use Rattle.am_scenario.specs.Grammar.{threads_below}
 use Rattle.am_scenario.proofs.finish.threads_below.Given as goal
 

@@ -1,6 +1,6 @@
 use Rattle.std.proofs.Common.{sym, ◌∙◌}
 use Rattle.am_lexer.specs.Text.{words_of}
-use Rattle.am_scenario_draft.specs.Drafts.{said}
+use Rattle.am_scenario.specs.Drafts.Drafts.{said}
 use Rattle.am_scenario.proofs.Comments.{comment_says, nothing_says, word_says}
 use Rattle.am_scenario.proofs.order.take_words.Goals as goal
 

@@ -1,5 +1,5 @@
 use Rattle.am_lexer.specs.Text.{lines_of}
-use Rattle.am_scenario_draft.specs.Drafts.{said}
+use Rattle.am_scenario.specs.Drafts.Drafts.{said}
 use Rattle.am_scenario.specs.Grammar.{grammar}
 use Rattle.am_scenario.proofs.Steps.{printable_parts, line_taken, line_refused, all_taken, all_refused}
 use Rattle.am_scenario.proofs.Lawfully.{spells_lawful}

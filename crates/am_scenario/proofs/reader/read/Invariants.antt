@@ -1,7 +1,7 @@
 use Rattle.std.proofs.Common.{◌≡◌, true, length}
 use Rattle.std.specs.List.{list_all}
 use Rattle.am_lexer.specs.Text.{lines_of, is_text_line}
-use Rattle.am_scenario_draft.specs.Drafts.{said}
+use Rattle.am_scenario.specs.Drafts.Drafts.{said}
 use Rattle.am_scenario.specs.Grammar.{read_from, grammar}
 use Rattle.am_scenario.proofs.reader.read.Given as goal
 

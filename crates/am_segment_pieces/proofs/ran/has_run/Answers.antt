@@ -1,5 +1,5 @@
 use Rattle.std.proofs.Common.{List, ◌∙◌}
-use Rattle.am_office.specs.declared.Entry.{Entry}
+use Rattle.am_office_entries.specs.declared.Entry.{Entry}
 use Rattle.am_segment_pieces.specs.Runs.{TellsRuns, run_key}
 use Rattle.am_segment_pieces.proofs.Counted.{key_is_run}
 use Rattle.am_segment_pieces.proofs.ran.has_run.Goals as goal

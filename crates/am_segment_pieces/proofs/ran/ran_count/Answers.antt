@@ -1,5 +1,5 @@
 use Rattle.std.proofs.Common.{List, arith}
-use Rattle.am_office.specs.declared.Entry.{Entry}
+use Rattle.am_office_entries.specs.declared.Entry.{Entry}
 use Rattle.am_segment_pieces.specs.Runs.{TellsRuns}
 use Rattle.am_segment_pieces.proofs.Counted.{counted_all, counted_next}
 use Rattle.am_segment_pieces.proofs.ran.ran_count.Goals as goal

@@ -1,6 +1,6 @@
 use Rattle.std.proofs.Common.{◌≡◌, ◌≤◌, List, map, count_by}
 use Rattle.std.specs.List.{range_with_len}
-use Rattle.am_office.specs.declared.Entry.{Entry}
+use Rattle.am_office_entries.specs.declared.Entry.{Entry}
 use Rattle.am_segment_pieces.specs.declared.parts.Piece.{Piece}
 use Rattle.am_segment_pieces.specs.Pieces.{words_of}
 use Rattle.am_segment_pieces.specs.Blocks.{piece_at}

@@ -1,5 +1,5 @@
 use Rattle.std.proofs.Common.{List, arith, subst}
-use Rattle.am_office.specs.declared.Entry.{Entry}
+use Rattle.am_office_entries.specs.declared.Entry.{Entry}
 use Rattle.am_segment_pieces.specs.Runs.{TellsRuns}
 use Rattle.am_segment_pieces.proofs.Counted.{ran_all, ran_step}
 use Rattle.am_segment_pieces.proofs.ran.transfers_ran.Goals as goal

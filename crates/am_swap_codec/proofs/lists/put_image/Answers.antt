@@ -1,7 +1,7 @@
 use Rattle.std.proofs.Common.{List, ◌++◌, Option, ap, ◌∙◌}
 use Rattle.std.specs.Prelude.{flat_map}
 use Rattle.am_names.specs.declared.Message.{Message}
-use Rattle.am_office.specs.declared.HandlerKind.{HandlerKind}
+use Rattle.am_office_entries.specs.declared.HandlerKind.{HandlerKind}
 use Rattle.am_model.specs.declared.Mapping.{Mapping}
 use Rattle.am_model.specs.declared.Awaited.{Awaited}
 use Rattle.am_model.specs.declared.Queued.{Queued}
@@ -9,7 +9,7 @@ use Rattle.am_model.specs.declared.Notice.{Notice}
 use Rattle.am_model.specs.Endpoint.{Body}
 use Rattle.am_swap_image.specs.Image.{magic, long, short, counted, mapping_bytes, record_bytes, handler_bytes, queued_bytes, notice_bytes, received_bytes}
 use Rattle.am_swap_image.specs.Image.{image}
-use Rattle.am_swap_parts.proofs.Turns.{eleven}
+use Rattle.am_swap_codec.proofs.Turns.{eleven}
 use Rattle.am_swap_codec.proofs.lists.put_image.Goals as goal
 
 pub returns : goal.returns

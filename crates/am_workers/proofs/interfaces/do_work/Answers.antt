@@ -1,13 +1,13 @@
 use Rattle.std.proofs.Common.{◌≡◌, ◌++◌, Option, refl, sym, subst}
 use Rattle.am_names.specs.declared.Packet.{Packet}
 use Rattle.am_model.specs.Channels.{emitted}
-use Rattle.am_workers_turns.specs.Servers.{sent_to}
+use Rattle.am_workers.specs.Turns.Servers.{sent_to}
 use Rattle.am_workers.specs.AtWork.{sent_by, taken_by}
 use Rattle.am_workers.proofs.Turned.{sends_all}
 use Rattle.am_workers.proofs.interfaces.do_work.Goals as goal
 
-pub returns : goal.returns
-returns c =
+pub returns-clause-serves : goal.returns-clause-serves
+returns-clause-serves c =
     let w = c.args.worker.now in let t = c.serve-turn in let i = w.interface in let sent = c.send-worker in
     record {
       idle = t.ensures.idle;

@@ -1,6 +1,6 @@
 use Rattle.std.proofs.Common.{◌≡◌, ◌≤◌, refl, ap, ◌∙◌, subst}
 use Rattle.am_scenario_types.specs.Lists.{ScenarioLists}
-use Rattle.am_workers_driver.proofs.Turning.{same_then}
+use Rattle.am_driver.proofs.Turning.{same_then}
 use Rattle.am_workers.specs.declared.workers.InterfaceWorker.{InterfaceWorker}
 use Rattle.am_workers.proofs.Linking.{ins_itself, ins_then, outs_itself, outs_then}
 use Rattle.am_workers.proofs.Turned.{at_more}

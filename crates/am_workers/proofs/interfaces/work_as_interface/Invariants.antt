@@ -1,5 +1,5 @@
 use Rattle.std.proofs.Common.{◌≡◌, Some}
-use Rattle.am_workers_invariants.specs.Seats.{SameSeat}
+use Rattle.am_workers_laws.specs.Invariants.Seats.{SameSeat}
 use Rattle.am_workers.specs.AtWork.{IsInterfaceAtWork, SameIns, SameOuts}
 use Rattle.am_workers.specs.declared.workers.Stop.{Stop}
 use Rattle.am_workers.proofs.interfaces.work_as_interface.Given as goal

@@ -1,6 +1,6 @@
 use Rattle.std.specs.Prelude.{Some}
 use Rattle.std.proofs.Common.{refl, sym, ap, ◌∙◌}
-use Rattle.am_office.specs.declared.Call.TheVariants as Calls
+use Rattle.am_office_entries.specs.declared.Call.TheVariants as Calls
 use Rattle.am_model.specs.Changes.{called, with_mapped}
 use Rattle.am_endpoint.specs.Seen.{state_in}
 use Rattle.am_endpoint.proofs.Open.{open_map}

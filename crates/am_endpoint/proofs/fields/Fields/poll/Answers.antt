@@ -1,5 +1,5 @@
 use Rattle.std.proofs.Common.{ap, ◌∙◌}
-use Rattle.am_office.specs.declared.Call.TheVariants as Calls
+use Rattle.am_office_entries.specs.declared.Call.TheVariants as Calls
 use Rattle.am_model.specs.Changes.{called}
 use Rattle.am_endpoint_body.specs.Views.{View}
 use Rattle.am_endpoint.specs.Seen.{state_in}

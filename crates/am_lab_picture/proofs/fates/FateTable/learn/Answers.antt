@@ -3,9 +3,9 @@ use Rattle.std.specs.Option.{option_or}
 use Rattle.am_names.specs.declared.Cause.{Cause}
 use Rattle.am_names.specs.declared.Serial.{Serial}
 use Rattle.am_names.specs.Names.{has_serial}
-use Rattle.am_office.specs.Entries.{is_serial, passes}
+use Rattle.am_office_entries.specs.Entries.{is_serial, passes}
 use Rattle.am_lab_picture.specs.Fates.{cause_in, has}
-use Rattle.am_office.specs.Fates.{cause_for}
+use Rattle.am_office_entries.specs.Fates.{cause_for}
 use Rattle.am_lab_picture.proofs.Fating.{learned}
 use Rattle.am_lab_picture.proofs.fates.FateTable.learn.Goals as goal
 

@@ -1,6 +1,6 @@
 use Rattle.std.proofs.Common.{◌≡◌, [], map, take, List}
-use Rattle.am_office.specs.declared.Entry.{Entry}
-use Rattle.am_office_journal.specs.Behind.{entries_behind}
+use Rattle.am_office_entries.specs.declared.Entry.{Entry}
+use Rattle.am_office_entries.specs.Logged.Behind.{entries_behind}
 use Rattle.am_office_report.specs.Report.{listed}
 use Rattle.am_office_report.specs.Tables.{messages_in, state_after}
 use Rattle.am_office_report.proofs.messages.MessageTable.learn_all.Given as goal

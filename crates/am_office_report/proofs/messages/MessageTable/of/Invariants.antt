@@ -1,5 +1,5 @@
 use Rattle.std.proofs.Common.{◌≡◌, [], map, take}
-use Rattle.am_office_journal.specs.Behind.{entries_behind}
+use Rattle.am_office_entries.specs.Logged.Behind.{entries_behind}
 use Rattle.am_office_report.specs.Report.{listed}
 use Rattle.am_office_report.specs.Tables.{messages_in, state_after}
 use Rattle.am_office_report.proofs.messages.MessageTable.of.Given as goal

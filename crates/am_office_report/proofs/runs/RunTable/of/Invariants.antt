@@ -1,5 +1,5 @@
 use Rattle.std.proofs.Common.{take}
-use Rattle.am_office_journal.specs.Behind.{entries_behind}
+use Rattle.am_office_entries.specs.Logged.Behind.{entries_behind}
 use Rattle.am_office_report.specs.Tables.{AreRuns}
 use Rattle.am_office_report.proofs.runs.RunTable.of.Given as goal
 

@@ -1,6 +1,0 @@
-use Rattle.std.proofs.Common.{◌≡◌, take}
-use Rattle.am_cluster_nodes.specs.Openings.{lines_of}
-use Rattle.am_cluster_nodes.proofs.ends.view_of.Given as goal
-
-abbrev pub invariant-loop-end : goal.invariant-loop-end
-invariant-loop-end l = l.lines.items ≡ lines_of (take l.end-index l.ends)

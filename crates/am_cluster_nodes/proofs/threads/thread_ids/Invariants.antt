@@ -1,6 +1,0 @@
-use Rattle.std.proofs.Common.{◌≡◌, take}
-use Rattle.am_cluster_nodes.specs.Openings.{thread_ids}
-use Rattle.am_cluster_nodes.proofs.threads.thread_ids.Given as goal
-
-abbrev pub invariant-loop-line : goal.invariant-loop-line
-invariant-loop-line l = l.ids.items ≡ thread_ids (take l.line-index l.lines) l.node

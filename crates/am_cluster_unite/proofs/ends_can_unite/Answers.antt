@@ -1,5 +1,0 @@
-use Rattle.am_cluster_unite.proofs.Unite.{ends_unite}
-use Rattle.am_cluster_unite.proofs.ends_can_unite.Goals as goal
-
-pub returns : goal.returns
-returns c = ends_unite

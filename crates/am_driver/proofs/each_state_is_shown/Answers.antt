@@ -1,5 +1,0 @@
-use Rattle.am_driver.proofs.Views as views
-use Rattle.am_driver.proofs.each_state_is_shown.Goals as goal
-
-pub returns : goal.returns
-returns c = views.each_state_is_shown

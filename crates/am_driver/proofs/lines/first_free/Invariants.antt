@@ -1,6 +1,0 @@
-use Rattle.std.proofs.Common.{◌≡◌, ℕ, ◌<◌, false}
-use Rattle.am_driver.specs.Moves.{is_free}
-use Rattle.am_driver.proofs.lines.first_free.Given as goal
-
-abbrev pub invariant-loop-frame : goal.invariant-loop-frame
-invariant-loop-frame l = (k : ℕ) → k < l.frame → is_free l.ends k ≡ false

@@ -1,9 +1,0 @@
-//! Tests of interfaces: worked journals of two nodes, as calls on their interfaces and endpoints.
-#![tactic(auto)]
-
-#[cfg(test)]
-mod nodes;
-#[cfg(test)]
-mod pairs;
-#[cfg(test)]
-mod tests;

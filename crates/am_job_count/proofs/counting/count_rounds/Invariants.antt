@@ -1,5 +1,0 @@
-use Rattle.am_job_count.specs.Counting.{CountsAll}
-use Rattle.am_job_count.proofs.counting.count_rounds.Given as goal
-
-abbrev pub invariant-loop-number : goal.invariant-loop-number
-invariant-loop-number g l = CountsAll (g.R.Runner.is_run l.runner) l.w l.turns l.sent l.number l.tally

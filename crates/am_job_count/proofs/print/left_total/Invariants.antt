@@ -1,6 +1,0 @@
-use Rattle.std.proofs.Common.{◌≡◌, take}
-use Rattle.am_job_count.specs.Printed.{left_total}
-use Rattle.am_job_count.proofs.print.left_total.Given as goal
-
-abbrev pub invariant-loop-row : goal.invariant-loop-row
-invariant-loop-row l = l.left ≡ left_total (take l.row-index l.rows)

@@ -1,9 +1,0 @@
-//! The words of a text are counted round by round: each round's scenario is run, and what its journal tells is counted.
-#![tactic(auto)]
-
-mod counting;
-mod print;
-mod runner;
-
-pub use counting::{CountStop, count};
-pub use runner::{RunStop, Runner};

@@ -1,5 +1,0 @@
-//! Tests of counting words: the words of texts, the rounds that send them, and what is counted.
-#![tactic(auto)]
-
-#[cfg(test)]
-mod tests;

@@ -1,8 +1,0 @@
-use Rattle.am_lab_due.specs.Choices.{next_packet}
-use Rattle.am_lab_due.proofs.Following.{put_more}
-use Rattle.am_lab_due.proofs.choices.put_packets_at.Goals as goal
-
-pub loop-peer-preserved : goal.loop-peer-preserved
-loop-peer-preserved c =
-    put_more (next_packet c.args.run.now.scenario c.args.run.now.journal c.args.node) c.loop-peer.peer c.args.out.now.items c.loop-peer.out.items
-    c.put_packet.new.out.items c.in_ok-put_packet.ensures c.loop-peer.invariant

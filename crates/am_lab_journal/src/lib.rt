@@ -1,7 +1,0 @@
-//! The journal of a report, made again from its lines.
-#![tactic(auto)]
-
-mod plays;
-mod reaches;
-
-pub use reaches::{reach, reach_end};

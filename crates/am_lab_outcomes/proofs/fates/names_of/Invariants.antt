@@ -1,7 +1,0 @@
-use Rattle.std.proofs.Common.{map, take}
-use Rattle.am_lab_distinct.specs.Kept.{Keeps}
-use Rattle.am_lab_outcomes.specs.Outcomes.{name_of}
-use Rattle.am_lab_outcomes.proofs.fates.names_of.Given as goal
-
-abbrev pub invariant-loop-message : goal.invariant-loop-message
-invariant-loop-message l = Keeps l.names (map name_of (take l.message-index l.messages))

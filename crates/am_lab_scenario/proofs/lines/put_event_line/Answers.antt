@@ -1,5 +1,0 @@
-use Rattle.am_lab_scenario.proofs.Printed.{no_outcome}
-use Rattle.am_lab_scenario.proofs.lines.put_event_line.Goals as goal
-
-pub returns : goal.returns
-returns c = rw (no_outcome c.args.event) at c.entry_line.ensures.ok

@@ -1,7 +1,0 @@
-use Rattle.std.proofs.Common.{◌≡◌, ◌++◌, take}
-use Rattle.std.specs.List.{flat_map}
-use Rattle.am_lab_scenario.specs.Replays.{replay_line}
-use Rattle.am_lab_scenario.proofs.replay.put_journal.Given as goal
-
-abbrev pub invariant-loop-entry : goal.invariant-loop-entry
-invariant-loop-entry l = l.out.items ≡ l.fn.out.items ++ flat_map replay_line (take l.entry-index l.journal)

@@ -1,7 +1,0 @@
-use Rattle.std.proofs.Common.{◌≡◌, ◌++◌, take}
-use Rattle.std.specs.List.{flat_map}
-use Rattle.am_lab_scenario.specs.Texts.{bundle_line}
-use Rattle.am_lab_scenario.proofs.texts.put_bundles.Given as goal
-
-abbrev pub invariant-loop-bundle : goal.invariant-loop-bundle
-invariant-loop-bundle l = l.out.items ≡ l.fn.out.items ++ flat_map bundle_line (take l.bundle-index l.bundles)

@@ -1,0 +1,5 @@
+pub mod Spelling
+pub mod Replays
+pub mod Derived
+pub mod DerivedLaws
+pub mod Texts

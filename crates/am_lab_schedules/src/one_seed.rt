@@ -1,0 +1,5 @@
+//! What `am2_lab schedule` prints: the report of a run whose order a seed draws.
+
+mod runs;
+
+pub use crate::one_seed::runs::schedule_output;

@@ -1,6 +1,0 @@
-pub mod Keeping
-pub mod Following
-pub mod Passing
-pub mod Showing
-pub mod Told
-pub mod Receipts

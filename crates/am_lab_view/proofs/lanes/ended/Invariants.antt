@@ -1,6 +1,0 @@
-use Rattle.std.proofs.Common.{◌≡◌, take}
-use Rattle.am_lab_view.specs.Standings.{all_ended}
-use Rattle.am_lab_view.proofs.lanes.ended.Given as goal
-
-abbrev pub invariant-loop-index : goal.invariant-loop-index
-invariant-loop-index l = l.lanes.items ≡ take l.index (all_ended l.line l.tracks l.ends)

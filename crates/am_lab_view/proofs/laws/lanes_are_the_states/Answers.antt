@@ -1,5 +1,0 @@
-use Rattle.am_lab_view.proofs.Told as told
-use Rattle.am_lab_view.proofs.laws.lanes_are_the_states.Goals as goal
-
-pub returns : goal.returns
-returns c = told.lanes_are_the_states

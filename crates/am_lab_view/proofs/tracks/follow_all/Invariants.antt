@@ -1,8 +1,0 @@
-use Rattle.std.proofs.Common.{◌≡◌}
-use Rattle.am_lab_view.specs.Standings.{all_followed}
-use Rattle.am_lab_view.proofs.Passing.{mixed}
-use Rattle.am_lab_view.proofs.tracks.follow_all.Given as goal
-
-abbrev pub invariant-loop-index : goal.invariant-loop-index
-invariant-loop-index l =
-    l.tracks ≡ mixed l.index (all_followed l.cluster.layout l.cluster.journal l.line l.fn.tracks l.cluster.layout.ends) l.fn.tracks

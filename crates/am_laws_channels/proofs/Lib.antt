@@ -1,3 +1,0 @@
-pub mod Sent
-pub mod Taken
-pub mod Answers

@@ -1,5 +1,0 @@
-use Rattle.am_laws_channels.proofs.Answers as laws
-use Rattle.am_laws_channels.proofs.answers_are_true.Goals as goal
-
-pub returns : goal.returns
-returns c = laws.answers_true

@@ -1,5 +1,0 @@
-use Rattle.am_laws_channels.proofs.Sent as laws
-use Rattle.am_laws_channels.proofs.mark_is_of_parcel.Goals as goal
-
-pub returns : goal.returns
-returns c = laws.mark_of

@@ -1,9 +1,0 @@
-pub mod Given
-pub mod Puts
-pub mod Tables
-pub mod Marked
-pub mod Records
-pub mod Held
-pub mod Sums
-pub mod Shares
-pub mod Law

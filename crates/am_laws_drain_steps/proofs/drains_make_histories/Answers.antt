@@ -1,5 +1,0 @@
-use Rattle.am_laws_drain_steps.proofs.Turning.{drains_make_histories}
-use Rattle.am_laws_drain_steps.proofs.drains_make_histories.Goals as goal
-
-pub returns : goal.returns
-returns c = drains_make_histories

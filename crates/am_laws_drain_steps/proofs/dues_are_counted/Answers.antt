@@ -1,5 +1,0 @@
-use Rattle.am_laws_drain_steps.proofs.Receipts.{dues_are_counted}
-use Rattle.am_laws_drain_steps.proofs.dues_are_counted.Goals as goal
-
-pub returns : goal.returns
-returns c = dues_are_counted

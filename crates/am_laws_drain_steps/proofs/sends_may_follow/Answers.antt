@@ -1,5 +1,0 @@
-use Rattle.am_laws_drain_steps.proofs.Sends.{sends_may_follow}
-use Rattle.am_laws_drain_steps.proofs.sends_may_follow.Goals as goal
-
-pub returns : goal.returns
-returns c = sends_may_follow

@@ -1,5 +1,0 @@
-use Rattle.am_laws_drain_steps.proofs.Enabled.{time_outs_may_follow}
-use Rattle.am_laws_drain_steps.proofs.time_outs_may_follow.Goals as goal
-
-pub returns : goal.returns
-returns c = time_outs_may_follow

@@ -1,4 +1,0 @@
-pub mod Arrived
-pub mod Open
-pub mod Bounced
-pub mod Pools

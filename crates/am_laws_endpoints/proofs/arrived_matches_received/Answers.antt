@@ -1,5 +1,0 @@
-use Rattle.am_laws_endpoints.proofs.Arrived as laws
-use Rattle.am_laws_endpoints.proofs.arrived_matches_received.Goals as goal
-
-pub returns : goal.returns
-returns c = laws.arrived_matches

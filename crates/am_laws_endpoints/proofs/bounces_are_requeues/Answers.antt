@@ -1,5 +1,0 @@
-use Rattle.am_laws_endpoints.proofs.Bounced as laws
-use Rattle.am_laws_endpoints.proofs.bounces_are_requeues.Goals as goal
-
-pub returns : goal.returns
-returns c = laws.bounces_are

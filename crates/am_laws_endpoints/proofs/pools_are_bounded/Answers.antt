@@ -1,5 +1,0 @@
-use Rattle.am_laws_endpoints.proofs.Pools as laws
-use Rattle.am_laws_endpoints.proofs.pools_are_bounded.Goals as goal
-
-pub returns : goal.returns
-returns c = laws.pools_bounded

@@ -1,5 +1,0 @@
-use Rattle.am_laws_endpoints.proofs.Open as laws
-use Rattle.am_laws_endpoints.proofs.waiting_is_open.Goals as goal
-
-pub returns : goal.returns
-returns c = laws.waiting_open

@@ -1,5 +1,0 @@
-use Rattle.am_laws_packets.proofs.Packets.{bound_aloft}
-use Rattle.am_laws_packets.proofs.bound_messages_fly.Goals as goal
-
-pub returns : goal.returns
-returns c layout past packet h ch m is = bound_aloft layout past packet h ch m is

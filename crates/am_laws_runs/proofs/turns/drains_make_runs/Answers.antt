@@ -1,0 +1,5 @@
+use Rattle.am_laws_runs.proofs.Turning.{drains_make_runs}
+use Rattle.am_laws_runs.proofs.turns.drains_make_runs.Goals as goal
+
+pub returns : goal.returns
+returns c = drains_make_runs

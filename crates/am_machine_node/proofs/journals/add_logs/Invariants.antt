@@ -1,7 +1,0 @@
-use Rattle.std.proofs.Common.{◌≡◌, ◌++◌, map, take}
-use Rattle.am_machine_join.specs.Joined.{lists_of}
-use Rattle.am_machine_node.specs.Parts.{log_of}
-use Rattle.am_machine_node.proofs.journals.add_logs.Given as goal
-
-abbrev pub invariant-loop-end : goal.invariant-loop-end
-invariant-loop-end l = lists_of l.logs.items ≡ lists_of l.initial.logs.items ++ map log_of (take l.end-index l.part.ends.items)

@@ -1,0 +1,36 @@
+use Rattle.std.proofs.Common.{rules, refl}
+use Rattle.am_model_scripts.specs.Links.{KeepsLinks}
+use Rattle.am_model_scripts.specs.Scripts.{KeepsScripts}
+use Rattle.am_model_scripts.specs.Standings.{IsAtRest}
+use Rattle.am_model_scripts.specs.Follows.{KeepsLastTries, KeepsToEvents, IsPhase}
+use Rattle.am_model_drain.specs.Drain.{IsDrainedIn}
+use Rattle.am_model_drain.specs.Follows.{IsPhaseThenDrain}
+use Rattle.am_model_worked.specs.Drain.PhaseThenDrain.{scenario, journal, phase}
+use Rattle.am_model_worked.proofs.drain.phase_then_drain.Goals as goal
+
+scripts : KeepsScripts scenario journal
+scripts = search rules
+
+links : KeepsLinks scenario journal
+links = search rules
+
+last_tries : KeepsLastTries scenario journal
+last_tries = search rules
+
+rest : IsAtRest scenario journal
+rest = search rules
+
+events : KeepsToEvents scenario journal
+events = refl
+
+is_phase : IsPhase scenario phase
+is_phase = search rules
+
+drained : IsDrainedIn 10 scenario phase journal
+drained = search rules
+
+phases : IsPhaseThenDrain scenario journal
+phases = record { phase = phase; is_phase = is_phase; drained = (10, drained) }
+
+pub returns-clause-follows : goal.returns-clause-follows
+returns-clause-follows c = record { scripts = scripts; links = links; last_tries = last_tries; rest = rest; events = events; phases = phases }

@@ -1,6 +1,0 @@
-use Rattle.std.proofs.Common.{◌≡◌, [], take}
-use Rattle.am_office.specs.Fates.{causes_of}
-use Rattle.am_office.proofs.fates.first_cause.Given as goal
-
-abbrev pub invariant-loop-entry : goal.invariant-loop-entry
-invariant-loop-entry l = causes_of (take l.entry-index l.entries) l.serial ≡ []

@@ -1,6 +1,0 @@
-use Rattle.am_office_lines.proofs.Appended.{ran_words}
-use Rattle.am_office_lines.proofs.lines.put_ran.Goals as goal
-
-pub returns-clause-ok : goal.returns-clause-ok
-returns-clause-ok c =
-    ran_words _ _ _ _ _ _ c.in_ok-put_message.ensures.ok c.put_handler.ensures.ok

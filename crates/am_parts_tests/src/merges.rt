@@ -1,0 +1,4 @@
+//! Tests of the merge of logs, with ample memory.
+
+#[cfg(test)]
+mod tests;

@@ -1,3 +1,0 @@
-mod Moments
-mod Marks
-mod Kept

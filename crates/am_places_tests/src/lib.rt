@@ -1,7 +1,0 @@
-//! Tests of places and of stays: two threads at four books, and a frame that changes its owner.
-#![tactic(auto)]
-
-#[cfg(test)]
-mod notes;
-#[cfg(test)]
-mod tests;

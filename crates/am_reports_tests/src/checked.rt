@@ -1,0 +1,12 @@
+//! Tests of the checker of printed journals: reports with what it answers for each.
+
+#[cfg(test)]
+mod run_tables;
+#[cfg(test)]
+mod runs;
+#[cfg(test)]
+mod tables;
+#[cfg(test)]
+mod tests;
+#[cfg(test)]
+mod texts;

@@ -1,8 +1,0 @@
-use Rattle.am_scenario_laws.proofs.Growing.{stays_sound, begins_sound}
-use Rattle.am_scenario_laws.proofs.a_draft_stays_sound.Goals as goal
-
-pub returns-clause-begins : goal.returns-clause-begins
-returns-clause-begins c = begins_sound
-
-pub returns-clause-stays : goal.returns-clause-stays
-returns-clause-stays c = stays_sound

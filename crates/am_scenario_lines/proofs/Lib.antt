@@ -1,4 +1,0 @@
-pub mod Members
-mod Keywords
-mod Ends
-mod Actors

@@ -1,0 +1,72 @@
+// Lists of parts, written and read.
+ghost use Rattle.am_swap_codec.specs.Pieces.Answers.{Finds};
+ghost use Rattle.am_swap_image.specs.Image.{counted};
+ghost use Rattle.am_swap_image.specs.Reading.{counted_at, many_at};
+ghost use Rattle.std.specs.Prelude.{◌≡◌, ◌++◌, ◌<◌, OnOk, flat_map, length};
+
+use crate::pieces::fault::ReadFault;
+use crate::pieces::part::Part;
+use crate::pieces::reading::take_byte;
+use crate::pieces::writing::put_byte;
+use am_names::EndpointId;
+use std::alloc::{AllocError, Global};
+
+/// Each part, one after another.
+pub fn put_each<P: Part>(out: &mut Vec<u8>, parts: &[P]) -> Result<(), AllocError>
+    ensures { OnOk result (out.new.items ≡ out.old.items ++ flat_map P.text parts.now) }
+{
+    for part in parts {
+        part.put(out)?;
+    }
+    Ok(())
+}
+
+/// How many parts there are, and each.
+pub fn put_counted<P: Part>(out: &mut Vec<u8>, parts: &[P]) -> Result<(), AllocError>
+    requires { length parts.now < 256 }
+    ensures { OnOk result (out.new.items ≡ out.old.items ++ counted P.text parts.now) }
+{
+    put_byte(out, parts.len() as u8)?;
+    put_each(out, parts)?;
+    Ok(())
+}
+
+/// So many parts, each behind the one before it.
+pub fn take_many<P: Part>(
+    alloc: Global,
+    id: EndpointId,
+    count: u8,
+    bytes: &[u8],
+) -> Result<(Vec<P>, &[u8]), ReadFault>
+    ensures { Finds (λ x. (x.0.items, x.1.now)) result (many_at (P.at id) count bytes.now) }
+{
+    let mut parts = Vec::new(alloc);
+    let mut rest = bytes;
+    for number in 0..count {
+        match P::take(id, rest) {
+            None => return Err(ReadFault::NoBody),
+            Some((part, after)) => {
+                let Ok(()) = parts.push(part) else {
+                    return Err(ReadFault::NoMemory);
+                };
+                rest = after;
+            }
+        }
+    }
+    Ok((parts, rest))
+}
+
+/// How many parts there are, and each.
+#[tactic(auto, unfolding(am_swap_image::specs::Reading::counted_at))]
+pub fn take_counted<P: Part>(
+    alloc: Global,
+    id: EndpointId,
+    bytes: &[u8],
+) -> Result<(Vec<P>, &[u8]), ReadFault>
+    ensures { Finds (λ x. (x.0.items, x.1.now)) result (counted_at (P.at id) bytes.now) }
+{
+    match take_byte(bytes) {
+        None => Err(ReadFault::NoBody),
+        Some((count, rest)) => take_many(alloc, id, count, rest),
+    }
+}

@@ -1,4 +1,0 @@
-pub mod Lists
-pub mod Planned
-pub mod Spread
-pub mod Weaving

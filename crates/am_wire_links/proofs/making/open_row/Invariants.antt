@@ -1,5 +1,0 @@
-use Rattle.am_wire_links.specs.Links.{IsRow}
-use Rattle.am_wire_links.proofs.making.open_row.Given as goal
-
-abbrev pub invariant-loop-to : goal.invariant-loop-to
-invariant-loop-to l = IsRow l.plan l.from l.to l.outs.items l.ins.items

@@ -1,5 +1,0 @@
-use Rattle.am_wire_links.specs.Links.{AreWoven}
-use Rattle.am_wire_links.proofs.open_links.Given as goal
-
-abbrev pub invariant-loop-from : goal.invariant-loop-from
-invariant-loop-from l = AreWoven l.plan l.nodes l.from l.outs.items l.ins.items

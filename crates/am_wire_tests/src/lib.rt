@@ -1,5 +1,0 @@
-//! Tests of links: what comes out of a link on one thread, and from one thread to another.
-#![tactic(auto)]
-
-#[cfg(test)]
-mod tests;

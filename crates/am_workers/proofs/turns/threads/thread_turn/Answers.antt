@@ -1,0 +1,48 @@
+use Rattle.std.proofs.Common.{sym, ap, ◌∙◌}
+use Rattle.atomic_table.specs.Seated.{TableId}
+use Rattle.am_workers.specs.Turns.Turns.{made_in}
+use Rattle.am_workers_laws.proofs.Staying.{Stands, is_small, may_grow, may_stay, stands_of, stayed_there}
+use Rattle.am_workers.proofs.Answering.{still_made, thread_turned}
+use Rattle.am_workers.proofs.turns.threads.thread_turn.Goals as goal
+
+pub leave-requires-clause-grown : goal.leave-requires-clause-grown
+leave-requires-clause-grown c κs =
+    let p = c.args.places.now in let t = c.args.seat.now in let b = c.in-Ok.entered.book in
+    let s : Stands c.args.at t.token.me = stands_of c.args.at p.count t.token.table_id.slots t.mark t.token.me
+    (ap (λ (i : TableId). i.slots) c.requires.idle.table
+    ∙ p.sized.1) t.sized c.requires.at c.requires.idle.hand c.requires.idle.outside t.marked.1 t.marked.3 in
+    may_grow c.args.at c.in-Ok.entered.at t.token.me c.try_enter_at.new.seat.token.me b c.act-turn.new.book.end.value (made_in c.act-turn.result) s
+    c.in-Ok.ensures.book c.act-turn.ensures.added
+
+pub leave-requires-clause-stays : goal.leave-requires-clause-stays
+leave-requires-clause-stays c κs guest =
+    let p = c.args.places.now in let t = c.args.seat.now in let b = c.in-Ok.entered.book in
+    let s : Stands c.args.at t.token.me = stands_of c.args.at p.count t.token.table_id.slots t.mark t.token.me
+    (ap (λ (i : TableId). i.slots) c.requires.idle.table
+    ∙ p.sized.1) t.sized c.requires.at c.requires.idle.hand c.requires.idle.outside t.marked.1 t.marked.3 in
+    may_stay c.places_are_kept.ensures c.args.at c.in-Ok.entered.at t.token.me c.try_enter_at.new.seat.token.me b c.act-turn.new.book.end.value
+    (made_in c.act-turn.result) s c.in-Ok.ensures.book c.act-turn.ensures.settings c.act-turn.ensures.added
+    (still_made c.args.thread c.args.call c.args.clock.now c.act-turn.result b.end.value.settings b.end.value.log c.act-turn.ensures.found)
+
+pub leave-requires-clause-small : goal.leave-requires-clause-small
+leave-requires-clause-small c κs =
+    let p = c.args.places.now in let t = c.args.seat.now in let b = c.in-Ok.entered.book in
+    let s : Stands c.args.at t.token.me = stands_of c.args.at p.count t.token.table_id.slots t.mark t.token.me
+    (ap (λ (i : TableId). i.slots) c.requires.idle.table
+    ∙ p.sized.1) t.sized c.requires.at c.requires.idle.hand c.requires.idle.outside t.marked.1 t.marked.3 in
+    is_small c.places_are_kept.ensures c.args.at c.in-Ok.entered.at t.token.me c.try_enter_at.new.seat.token.me b c.act-turn.new.book.end.value
+    (made_in c.act-turn.result) s c.in-Ok.ensures.book c.act-turn.ensures.settings c.act-turn.ensures.added
+    (still_made c.args.thread c.args.call c.args.clock.now c.act-turn.result b.end.value.settings b.end.value.log c.act-turn.ensures.found)
+
+pub returns-in-Ok-clause-turn : goal.returns-in-Ok-clause-turn
+returns-in-Ok-clause-turn c =
+    let p = c.args.places.now in let t = c.args.seat.now in let b = c.in-Ok.entered.book in let w = c.in-Ok.ensures.book in
+    let s : Stands c.args.at t.token.me = stands_of c.args.at p.count t.token.table_id.slots t.mark t.token.me
+    (ap (λ (i : TableId). i.slots) c.requires.idle.table
+    ∙ p.sized.1) t.sized c.requires.at c.requires.idle.hand c.requires.idle.outside t.marked.1 t.marked.3 in
+    thread_turned c.args.at c.args.thread c.args.call c.args.clock.now c.act-turn.result t.token.me.0 c.leave.new.seat.token.me.0 b.end.value.settings _ w.0
+    b.end.value.log
+    (stayed_there c.args.at c.in-Ok.entered.at t.token.me c.try_enter_at.new.seat.token.me c.leave.new.seat.token.me b c.act-turn.new.book
+    (made_in c.act-turn.result) c.try_enter_at.new.seat.mark s w (sym c.try_enter_at.new.seat.marked.1) c.leave.ensures.tenure c.act-turn.ensures.settings
+    c.act-turn.ensures.added)
+    w.2.stands_for c.act-turn.ensures.found

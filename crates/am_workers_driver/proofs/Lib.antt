@@ -1,4 +1,0 @@
-pub mod Making
-pub mod Looking
-pub mod Moving
-pub mod Turning

@@ -1,5 +1,0 @@
-use Rattle.am_workers_invariants.proofs.Keeps.{threads_go_on}
-use Rattle.am_workers_invariants.proofs.a_thread_goes_on.Goals as goal
-
-pub returns : goal.returns
-returns c = threads_go_on

@@ -1,5 +1,0 @@
-use Rattle.am_workers_invariants.proofs.Receipts.{interfaces_go_on}
-use Rattle.am_workers_invariants.proofs.an_interface_goes_on.Goals as goal
-
-pub returns : goal.returns
-returns c = interfaces_go_on

@@ -1,5 +1,0 @@
-use Rattle.am_workers_invariants.proofs.Fresh.{fresh_know}
-use Rattle.am_workers_invariants.proofs.fresh_seats_know_the_node.Goals as goal
-
-pub returns : goal.returns
-returns c = fresh_know

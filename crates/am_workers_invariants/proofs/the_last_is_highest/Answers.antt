@@ -1,5 +1,0 @@
-use Rattle.am_workers_invariants.proofs.Stands.{above_last}
-use Rattle.am_workers_invariants.proofs.the_last_is_highest.Goals as goal
-
-pub returns : goal.returns
-returns c = above_last

@@ -1,5 +1,0 @@
-use Rattle.am_workers_phase.proofs.Then.{was_right}
-use Rattle.am_workers_phase.proofs.made_right_is_right.Goals as goal
-
-pub returns : goal.returns
-returns c = was_right
