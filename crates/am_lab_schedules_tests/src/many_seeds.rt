@@ -59,6 +59,15 @@ const PAIR: &str = "am2 1\n\
     t1 request 1 0 3 6 0 0 0\n\
     t1 poll 1\n";
 
+/// What was found of them.
+#[derive(Clone, Copy)]
+pub struct Found {
+    /// Runs without turns are told as they should be.
+    pub told: bool,
+    /// Those with turns are counted as they are alone.
+    pub counted: bool,
+}
+
 /// How many different reports the seeds below this one have, each made alone.
 fn count_alone(alloc: Global, seeds: u64) -> Result<usize, AllocError> {
     let mut reports: Vec<Vec<u8>> = Vec::new(alloc);
@@ -92,13 +101,9 @@ fn is_counted(alloc: Global, seeds: u64) -> Result<bool, NoMemory>
     Ok(told.text.ends_with(&line))
 }
 
-/// Tells whether runs without turns are told as they should be, and whether those with turns are counted as they are alone.
-pub fn told(alloc: Global) -> Result<[&'static str; 2], NoMemory> {
-    let told = if is_told(alloc)? { "told" } else { "not told" };
-    let counted = if is_counted(alloc, 40)? {
-        "counted"
-    } else {
-        "not counted"
-    };
-    Ok([told, counted])
+/// Whether runs without turns are told as they should be, and whether those with turns are counted as they are alone.
+pub fn try_forty(alloc: Global) -> Result<Found, NoMemory> {
+    let told = is_told(alloc)?;
+    let counted = is_counted(alloc, 40)?;
+    Ok(Found { told, counted })
 }

@@ -51,6 +51,17 @@ struct Tried {
     reports: Vec<Vec<u8>>,
 }
 
+/// What was found of them.
+#[derive(Clone, Copy)]
+pub struct Found {
+    /// The checker says yes to each report.
+    pub all_right: bool,
+    /// Each was the same when it was made again.
+    pub all_again: bool,
+    /// How many of them differ from one another.
+    pub reports: usize,
+}
+
 /// Whether the checker says yes to the scenario and this report.
 fn is_right(alloc: Global, report: &[u8]) -> Result<bool, AllocError> {
     let mut text = Vec::from_slice(alloc, PAIR.as_bytes())?;
@@ -88,27 +99,12 @@ fn try_below(alloc: Global, seeds: u64) -> Result<Tried, AllocError> {
     Ok(tried)
 }
 
-/// What is told of a count of differing reports among those of forty seeds.
-fn difference(count: usize) -> &'static str {
-    if count < 30 {
-        "fewer than 30 differ"
-    } else {
-        "at least 30 differ"
-    }
-}
-
-/// Tries forty seeds, and tells whether each report is right, whether each comes again, and whether they differ.
-pub fn told(alloc: Global) -> Result<[&'static str; 3], AllocError> {
+/// Tries forty seeds.
+pub fn try_forty(alloc: Global) -> Result<Found, AllocError> {
     let tried = try_below(alloc, 40)?;
-    let right = if tried.all_right {
-        "right"
-    } else {
-        "not right"
-    };
-    let again = if tried.all_again {
-        "again"
-    } else {
-        "not again"
-    };
-    Ok([right, again, difference(tried.reports.len())])
+    Ok(Found {
+        all_right: tried.all_right,
+        all_again: tried.all_again,
+        reports: tried.reports.len(),
+    })
 }
