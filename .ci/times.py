@@ -11,7 +11,7 @@ import sys
 import time
 
 # The file of what an earlier whole run took, with the same lines, and the most that all of it may take, in seconds of processor time.
-EARLIER, BUDGET = "bench/gate.txt", 17_000
+EARLIER, BUDGET = "bench/gate.txt", 9_000
 KINDS = ("proof", "tests", "edits")
 
 TICK = os.sysconf("SC_CLK_TCK")
