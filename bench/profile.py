@@ -19,10 +19,10 @@ PARTS = (
     ("endpoints", ("am_endpoint", "am_block", "am_translate", "am_handlers")),
     ("interfaces", ("am_iface", "am_channel", "am_wire")),
     ("merge", ("am_machine_journal::merge", "am_office_entries::logged")),
-    ("cluster", ("am_machine", "am_model", "am_driver_moves::choice", "am_swap")),
+    ("cluster", ("am_machine", "am_model", "am_driver", "am_swap")),
     ("drain", ("am_cluster",)),
     ("words", ("am_job",)),
-    ("printing", ("am_office_entries", "am_main", "itoa")),
+    ("printing", ("am_office", "am_main", "itoa")),
     ("copies and memory", ("__mem", "mem", "malloc", "realloc", "free", "_int_", "rattle_", "std_alloc", "std_heap", "sysmalloc", "mremap", "unlink_chunk")),
 )
 
