@@ -28,7 +28,7 @@ PARTS = (
 
 
 def part_of(function):
-    name = function.split("::")[0].lstrip("<")
+    name = function.lstrip("<")
     return next((part for part, heads in PARTS if name.startswith(heads)), "the rest")
 
 
