@@ -1,4 +1,4 @@
--- What the fate of a serial says of its journal.
+-- What the fate of a serial says of its journal: read `HasOneFate` first, at the end.
 use Rattle.std.specs.Prelude.{◌≡◌, ℕ, MatchOption, List}
 use Rattle.am_names.specs.declared.Serial.{Serial}
 use Rattle.am_names.specs.Names.{has_serial}
@@ -20,7 +20,8 @@ pub record CameBackUnput (journal : List Entry) (s : Serial) : Type 0 where
   pub became : Became journal s 1 0 0
   pub unput : times put_of (has_serial s) journal ≡ 0
 
--- what a fate says
+-- What a fate says. Returned: once, for this cause, and it was nowhere put, run or unknown. Unknown: once, and it didn't run. Unknown but ran:
+-- unknown once, and it ran once. Ran: once, and it is neither returned nor unknown. Pending: none of these.
 abbrev pub IsFate : List Entry → Serial → Fate → Type 0
 IsFate journal s (Fates.Returned cause) = CameBackUnput journal s × Gave return_of journal (s, cause)
 IsFate journal s Fates.Unknown = Became journal s 0 1 0
@@ -34,7 +35,7 @@ pub record IsFated (journal : List Entry) (s : Serial) (f : Fate) : Type 0 where
   pub says : IsFate journal s f
   pub only : (g : Fate) → IsFate journal s g → g ≡ f
 
--- A serial that was accepted has one fate, which says what became of it, and no other fate says so. A serial that was not
+-- ONE FATE. A serial that was accepted has one fate, which says what became of it, and no other fate says so. A serial that was not
 -- accepted has none.
 abbrev pub HasOneFate : List Entry → Serial → Type 0
 HasOneFate journal s = MatchOption (fate journal s) (times accepted_of (has_serial s) journal ≡ 0) (IsFated journal s)

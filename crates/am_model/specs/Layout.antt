@@ -29,6 +29,9 @@ pub record Fault : Type 0 where
   pub node : NodeId
   pub number : ℕ
 
+-- What a cluster begins with: the direct network or that of packets; how many nodes, frames of an interface, and channels from a node to
+-- another; how often a message is tried in one binding, and put back; the pool of credits, if there is one; how many entries a log takes;
+-- the endpoints, and the page calls that fail.
 pub record Layout : Type 0 where
   pub direct : Bool
   pub nodes : ℕ

@@ -1,4 +1,10 @@
--- The laws of the post office, which speak of positions in a journal.
+-- The nine laws of the post office: what every history obeys, whatever was lost, repeated, delayed or moved. Begin at the end: the record
+-- `PostOffice` names them, and each stands above it under its sentence, THE LAW OF so and so.
+--
+-- They speak of positions in a journal, and of nothing inside the machine but the tag with which an endpoint begins and its node. What an
+-- entry accepts, puts, runs, returns, leaves unknown, puts back, refuses or gives up is a role of the entry, as `put_of x`
+-- (am_office_entries/specs/Entries): the message or the serial, if there is one. `EachAfter May [] journal` says that each entry x of the
+-- journal, with the entries `past` before it, is so that `May past x`.
 use Rattle.std.specs.Prelude.{◌≡◌, ℕ, zero, suc, ◌+◌, ◌-◌, ◌≤◌, ◌==◌, Bool, true, false, ◌&&◌, ◌||◌, not, Option, Some, None, MatchOption, unwrap_or, List, []}
 use Rattle.std.specs.Prelude.{◌∷◌, ◌++◌, count_by, filter_map, slice_get, if◌then◌else◌}
 use Rattle.std.specs.List.{list_any}
@@ -55,6 +61,7 @@ abbrev pub last_given : {A : Type 0} → A → (Entry → Option A) → List Ent
 last_given a given [] = a
 last_given a given (x ∷ xs) = last_given (unwrap_or (given x) a) given xs
 
+-- the tag to which an entry sets the own tag of an endpoint
 abbrev pub tag_set : EndpointId → Event → Outcome → Option Tag
 tag_set e (Events.Call actor end (Calls.SetTag tag)) Out.Done = if same_end e end then Some tag else None
 tag_set e event outcome = None
@@ -63,6 +70,7 @@ tag_set e event outcome = None
 abbrev pub own_tag : Layout → List Entry → EndpointId → Tag
 own_tag layout past e = last_given (opening layout e).body.tag (λ x. tag_set e x.event x.outcome) past
 
+-- to what an entry maps an index of an endpoint, where it maps or unmaps it
 abbrev pub mapping_set : EndpointId → ℕ → Event → Outcome → Option (Option Mapping)
 mapping_set e index (Events.Call actor end (Calls.Map at name tag credits)) Out.Done =
     if same_end e end && (index == at) then Some (Some (record { name = name; tag = tag; credits = credits })) else None
@@ -100,6 +108,7 @@ pub record IsReplyTo (e : EndpointId) (past : List Entry) (request reply : Messa
   pub reply_tag : reply.reply_tag ≡ record { 0 = 0 }
   pub about : reply.about ≡ Some request.serial
 
+-- a request is the one of its call, and a reply goes back to the request that the poll runs
 abbrev pub IsAcceptedSo : Layout → List Entry → EndpointId → Call → Outcome → Type 0
 IsAcceptedSo layout past e (Calls.Request index handler words) (Out.Requested m) = IsRequestOf layout past e index handler words m
 IsAcceptedSo layout past e Calls.Poll (Out.Ran m handler (Some reply)) = IsReplyTo e past m reply
@@ -138,12 +147,14 @@ RunsOwnHandler (Out.Ran m (Some handler) sends) = handler ≡ m.handler
 RunsOwnHandler (Out.Ran m None sends) = is_reply m ≡ true
 RunsOwnHandler outcome = Unit {0}
 
+-- what an entry puts was accepted and not yet put, and is put at its destination
 pub record IsFirstPut (layout : Layout) (past : List Entry) (x : Entry) (m : Message) : Type 0 where
   pub accepted : WasAccepted past m
   pub first : times put_of (has_serial m.serial) past ≡ 0
   pub touched : touches m.dest x ≡ true
   pub place : IsAt layout m.dest x.event
 
+-- what an entry runs was accepted, put once and not yet run, and runs at its destination
 pub record IsFirstRun (layout : Layout) (past : List Entry) (x : Entry) (m : Message) : Type 0 where
   pub accepted : WasAccepted past m
   pub put : times put_of (has_serial m.serial) past ≡ 1
@@ -168,6 +179,7 @@ pub record PutAndRunOnce (layout : Layout) (journal : List Entry) : Type 0 where
   pub counts : EachOnce journal
   pub places : EachAfter (IsPutAndRunFirst layout) [] journal
 
+-- the own tag of the message's destination matches the message's tag
 abbrev pub IsTagged : Layout → List Entry → Message → Type 0
 IsTagged layout past m = matches (own_tag layout past m.dest) m.tag ≡ true
 
@@ -249,6 +261,7 @@ held_by past e at = count_by (λ (x : Entry). is_held past (asked_in e at x.even
 abbrev pub held_at : List Entry → EndpointId → ℕ → ℕ
 held_at past e index = held_by past e (λ (at : ℕ). index == at)
 
+-- how many held requests of an index are above its share
 abbrev pub over_share : Option Mapping → ℕ → ℕ
 over_share None held = 0
 over_share (Some mapping) held = held - mapping.credits
@@ -292,6 +305,7 @@ abbrev pub CameBack : List Entry → Serial → Why → Type 0
 CameBack past s Whys.Unknown = Gave unknown_of past s
 CameBack past s (Whys.Refused cause) = Gave return_of past (s, cause)
 
+-- a zero is the first of its serial, at its source, after it came back for that cause
 pub record IsFirstZero (past : List Entry) (end : EndpointId) (s : Serial) (why : Why) : Type 0 where
   pub place : end ≡ s.source
   pub first : times_serial zero_of s past ≡ 0
@@ -317,7 +331,7 @@ pub record BouncesBounded (layout : Layout) (journal : List Entry) : Type 0 wher
   pub most : (s : Serial) → times_serial requeue_of s journal ≤ layout.bounces
   pub last : EachAfter (λ past x. MatchOption (return_of x) (Unit {0}) (IsLastBounce layout past)) [] journal
 
--- the laws of the post office
+-- THE NINE LAWS. Each stands above, under its sentence.
 pub record PostOffice (layout : Layout) (journal : List Entry) : Type 0 where
   pub acceptance : AcceptedOnce layout journal
   pub delivery : PutAndRunOnce layout journal

@@ -1,4 +1,15 @@
--- What an entry does, and what it touches.
+-- What an entry does, and what it touches. An entry is an event with its outcome, and has roles, each a definition `.._of`, which gives the
+-- message or the serial that the entry
+--   accepts   takes over from its sender: a request by its call, or the reply of the handler that a poll runs;
+--   puts      adds to the received messages of its destination;
+--   runs      hands to a handler, in a poll;
+--   returns   gives back to its sender for a cause, for good;
+--   unknown   no longer waits for after the last time-out: it may have run or not;
+--   requeues  puts back into its sender's list, to be sent again;
+--   refuses   doesn't put, for a cause;
+--   zero      tells its sender by handler 0: a notice;
+--   gives up  no longer waits for, since its sender said so.
+-- The definitions `.._by` and `.._in` are their cases.
 use Rattle.std.specs.Prelude.{ℕ, Bool, false, ◌||◌, Option, Some, None, List, [], ◌∷◌}
 use Rattle.std.specs.List.{list_any}
 use Rattle.am_names.specs.declared.EndpointId.{EndpointId}
@@ -92,6 +103,7 @@ return_in (Events.Carry end) (Out.Returned m cause) = Some (m.serial, cause)
 return_in (Events.Receive node peer number) (Out.Received channel seq attempt result) = return_by result
 return_in event outcome = None
 
+-- the serial that an entry returns, with its cause
 abbrev pub return_of : Entry → Option (Serial × Cause)
 return_of x = return_in x.event x.outcome
 
@@ -186,6 +198,7 @@ ends_touched (Events.Load node end frame) outcome = end ∷ []
 ends_touched (Events.PageOut node end) outcome = end ∷ []
 ends_touched (Events.PageIn node end) outcome = end ∷ []
 
+-- whether an entry touches this endpoint
 abbrev pub touches : EndpointId → Entry → Bool
 touches e x = list_any (same_end e) (ends_touched x.event x.outcome)
 
@@ -200,6 +213,7 @@ abbrev pub is_node : NodeId → Option NodeId → Bool
 is_node node None = false
 is_node node (Some other) = same_node node other
 
+-- whether an entry touches the interface of this node
 abbrev pub touches_node : NodeId → Entry → Bool
 touches_node node x = is_node node (node_touched x.event)
 
