@@ -1,5 +1,5 @@
 -- What a run of a scenario answers, with threads and without, and what a drain of a cluster leaves.
-use Rattle.std.specs.Prelude.{◌≡◌, ◌≢◌, Some, false, true, List, [], Result, Ok, Err}
+use Rattle.std.specs.Prelude.{◌≡◌, ◌≢◌, ◌⊎◌, Some, false, true, List, [], Result, Ok, Err}
 use Rattle.am_names.specs.Rules.{is_transient}
 use Rattle.am_names.specs.declared.Cause.{Cause}
 use Rattle.am_names.specs.declared.Serial.{Serial}
@@ -15,7 +15,7 @@ use Rattle.am_scenario_types.specs.Lists.{ScenarioLists}
 use Rattle.am_model_scripts.specs.Layout.{layout_of}
 use Rattle.am_model_drain.specs.Cut.{IsDrainCutOff, IsDrainedWithRoom}
 use Rattle.am_model_drain.specs.Follows.{IsGoodPhase, IsStoppedFor}
-use Rattle.am_cluster_drainer.specs.Stops.{IsDrainBeginning}
+use Rattle.am_cluster_drainer.specs.Stops.{IsDrainStarved}
 use Rattle.am_laws_runs.specs.Turns.Endings.{UnknownIsPlanned, WithholdsNothing}
 use Rattle.am_laws_runs.specs.Drained.{HasShortLogs}
 use Rattle.am_cluster_crew.specs.Fed.{IsFedPhase}
@@ -98,4 +98,4 @@ IsAloneStopped s Runs.NoMemory = Unit {0}
 -- why a drain of the journal `past` did not come to its end, and what it left
 abbrev pub IsDrainHalted : ScenarioLists → List Entry → DrainFault → List Entry → Type 0
 IsDrainHalted s past (Drains.LogFull part) journal = IsDrainCutOff s past part journal
-IsDrainHalted s past Drains.NoMemory journal = IsDrainBeginning s past journal
+IsDrainHalted s past Drains.NoMemory journal = (journal ≡ past) ⊎ IsDrainStarved s past journal

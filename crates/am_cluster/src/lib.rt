@@ -68,8 +68,8 @@ pub enum DrainFault {
 /// journal begins the scripts. `made` has the number of calls that each thread made, in the order of the threads, before and
 /// after. Ok: the journal is what the drain makes of the one before, and no entry met a full log; all is at rest, every call of
 /// the scripts was made, no packet is left to be received, and no message that was accepted is pending. LogFull: it is what the
-/// drain makes before the first entry that meets a full log, which is the part's. NoMemory: it is a beginning of what the drain
-/// makes.
+/// drain makes before the first entry that meets a full log, which is the part's. NoMemory: it is what the drain makes before an
+/// entry that meets no full log, or nothing was made.
 pub fn drain(cluster: &mut Cluster, scenario: &Scenario, made: &mut [u32]) -> Result<(), DrainFault>
     requires lawful { IsLawful scenario.now }
     requires packet { scenario.now.network ≡ Packet }

@@ -51,8 +51,13 @@ stopped_further s (LogFull part) planned more made (a, p) cut =
       is_planned = p ∙ (ap (λ (xs : List Entry). xs ++ a) cut.is_planned ∙ append_assoc made (cut.next ∷ cut.later) a);
       full = cut.full;
     }
-stopped_further s NoMemory planned more made (a, p) begins =
-    record { later = begins.later ++ a; is_planned = p ∙ (ap (λ (xs : List Entry). xs ++ a) begins.is_planned ∙ append_assoc made begins.later a) }
+stopped_further s NoMemory planned more made (a, p) starved =
+    record {
+      next = starved.next;
+      later = starved.later ++ a;
+      is_planned = p ∙ (ap (λ (xs : List Entry). xs ++ a) starved.is_planned ∙ append_assoc made (starved.next ∷ starved.later) a);
+      free = starved.free;
+    }
 
 pub quiet_extends : (past next : List Entry) → Quiet past next → Extends past next
 quiet_extends past next q = (q.added, q.adds)
@@ -137,7 +142,20 @@ stops s past planned journal n (LogFull part) made reach cut =
       room = reach.room;
       full = cut.full;
     }
-stops s past planned journal n NoMemory made reach begins = record { turns = n; planned = planned; is_planned = made; begins = begins }
+stops s past planned journal n NoMemory made reach starved =
+    record {
+      drained =
+          record {
+            added = reach.added;
+            made = reach.made;
+            next = starved.next;
+            later = starved.later;
+            turns = n;
+            planned = made ∙ ap (λ (xs : List Entry). let o : Option (List Entry) = Some xs in o) starved.is_planned;
+          };
+      room = reach.room;
+      free = starved.free;
+    }
 
 pub stopped : (s s0 : ScenarioLists) (past now journal : List Entry) (t : Turn) (fault : EntryFault) → s ≡ s0 → Made s0 past now → Reaches s0 past now →
     next_turn s now ≡ Some t → Reaches s now journal → IsCutShort s fault (after_turn s now t) journal → IsDrainStopped s0 past fault journal

@@ -1,5 +1,5 @@
 -- What is made of a plan of entries, where an event is not enabled, a log is full or memory is wanting.
-use Rattle.std.specs.Prelude.{◌≡◌, ℕ, Some, Result, Ok, Err, List, ◌∷◌, ◌++◌}
+use Rattle.std.specs.Prelude.{◌≡◌, ◌⊎◌, ℕ, Some, None, Result, Ok, Err, List, ◌∷◌, ◌++◌}
 use Rattle.am_office_entries.specs.declared.Condition.{Condition}
 use Rattle.am_office_entries.specs.declared.Part.{Part}
 use Rattle.am_office_entries.specs.declared.Entry.{Entry}
@@ -31,6 +31,13 @@ pub record IsCutOff (scenario : ScenarioLists) (part : Part) (planned made : Lis
   pub is_planned : planned ≡ made ++ next ∷ later
   pub full : full_for scenario made next ≡ Some part
 
+-- what was planned is what was made, and then an entry that meets no full log, and maybe more
+pub record IsStarved (scenario : ScenarioLists) (planned made : List Entry) : Type 0 where
+  pub next : Entry
+  pub later : List Entry
+  pub is_planned : planned ≡ made ++ next ∷ later
+  pub free : full_for scenario made next ≡ None
+
 -- what was made is a beginning of what was planned
 pub record IsBeginning (planned made : List Entry) : Type 0 where
   pub later : List Entry
@@ -40,7 +47,7 @@ pub record IsBeginning (planned made : List Entry) : Type 0 where
 abbrev pub IsCutShort : ScenarioLists → EntryFault → List Entry → List Entry → Type 0
 IsCutShort scenario (NotEnabled condition) planned made = IsRefused scenario condition planned made
 IsCutShort scenario (LogFull part) planned made = IsCutOff scenario part planned made
-IsCutShort scenario NoMemory planned made = IsBeginning planned made
+IsCutShort scenario NoMemory planned made = IsStarved scenario planned made
 
 -- all that was planned was made, or it was stopped
 abbrev pub Does : {U : Type 0} → ScenarioLists → Result U EntryFault → List Entry → List Entry → Type 0
@@ -65,8 +72,21 @@ pub record IsDrainRefused (scenario : ScenarioLists) (past : List Entry) (condit
   pub room : MeetsNoFullLog scenario past drained.added
   pub failing' : failing (layout_of scenario) journal drained.next.event ≡ Some condition
 
+-- the journal is what the drain makes of `past` before an entry that meets no full log, and on the way none met one
+pub record IsDrainStarved (scenario : ScenarioLists) (past journal : List Entry) : Type 0 where
+  pub drained : IsDrainedBefore scenario past journal
+  pub room : MeetsNoFullLog scenario past drained.added
+  pub free : full_for scenario journal drained.next ≡ None
+
 -- the drain of `past` ends for this fault, and leaves this journal
 abbrev pub IsDrainStopped : ScenarioLists → List Entry → EntryFault → List Entry → Type 0
 IsDrainStopped scenario past (NotEnabled condition) journal = IsDrainRefused scenario past condition journal
 IsDrainStopped scenario past (LogFull part) journal = IsDrainCutOff scenario past part journal
-IsDrainStopped scenario past NoMemory journal = IsDrainBeginning scenario past journal
+IsDrainStopped scenario past NoMemory journal = IsDrainStarved scenario past journal
+
+-- The same, where the drain's machine is made first: where there is no memory for it nothing is made, and it isn't looked at what the
+-- drain would make.
+abbrev pub IsDrainEnded : ScenarioLists → List Entry → EntryFault → List Entry → Type 0
+IsDrainEnded scenario past (NotEnabled condition) journal = IsDrainRefused scenario past condition journal
+IsDrainEnded scenario past (LogFull part) journal = IsDrainCutOff scenario past part journal
+IsDrainEnded scenario past NoMemory journal = (journal ≡ past) ⊎ IsDrainStarved scenario past journal

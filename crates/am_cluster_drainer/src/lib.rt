@@ -188,7 +188,7 @@ pub trait Drainable {
 /// Does turns until no rule applies. It ends, since each turn leaves less work. Ok: the journal is
 /// what the drain makes of the one before, and no entry met a full log. LogFull: it is what the drain makes before the first
 /// entry that meets a full log, which is the part's. NotEnabled: before the first entry whose event has this condition
-/// against it. NoMemory: it is a beginning of what the drain makes.
+/// against it. NoMemory: before an entry that meets no full log.
 pub fn drain<M: Drainable>(machine: &mut M) -> Result<(), EntryFault>
     ensures scenario { M.scenario machine.new ≡ M.scenario machine.old }
     ensures drained { OnOk result (IsDrainedWithRoom (M.scenario machine.old) (M.journal machine.old) (M.journal machine.new)) }

@@ -1,6 +1,6 @@
 -- What an application of an event makes of the journal of a drain.
-use Rattle.std.specs.Prelude.{Result, Ok, Err}
-use Rattle.std.proofs.Common.{◌≡◌, Bor, List, [], ◌∷◌, ◌++◌, map, length, ◌*◌, ◌≤◌, Option, Some, None, refl, sym, ap, ◌∙◌, subst}
+use Rattle.std.specs.Prelude.{IfErr, Result, Ok, Err}
+use Rattle.std.proofs.Common.{◌≡◌, Bor, List, [], ◌∷◌, ◌++◌, map, length, ◌*◌, ◌≤◌, Option, Some, None, refl, sym, ap, ◌∙◌, subst, inl, inr}
 use Rattle.am_office_entries.specs.declared.Condition.{Condition}
 use Rattle.am_office_entries.specs.declared.Part.{Part}
 use Rattle.am_office_entries.specs.declared.Event.{Event}
@@ -30,7 +30,7 @@ use Rattle.am_cluster_scripted.proofs.CallsGrowing.{called_after}
 use Rattle.am_model_scripts.specs.Layout.{layout_of}
 use Rattle.am_model_drain.specs.Cut.{MeetsNoFullLog, full_for}
 use Rattle.am_model_drain.specs.Made.{after_event, next_entry}
-use Rattle.am_cluster_drainer.specs.Stops.{Acts, IsDrainBeginning}
+use Rattle.am_cluster_drainer.specs.Stops.{Acts, IsDrainEnded, IsDrainStopped}
 
 stop_none : (f : Option Condition) (l : Option Part) → stop_by f l ≡ None → (f ≡ None) × (l ≡ None)
 stop_none None None h = (refl, refl)
@@ -101,12 +101,18 @@ acts_full {U} s past now event p h same =
       reaches = record { added = []; made = nothing_more past; room = tt };
     })
 
-pub acts_memory : {U : Type 0} (s : ScenarioLists) (past now : List Entry) (event : Event) → now ≡ past →
+pub acts_memory : {U : Type 0} (s : ScenarioLists) (past now : List Entry) (event : Event) → stop (layout_of s) past event ≡ None → now ≡ past →
     Acts {U = U} s (Err Faults.NoMemory) past (after_event (layout_of s) event past) now
-acts_memory {U} s past now event same =
+acts_memory {U} s past now event h same =
     unmoved {U = U} s past now event Faults.NoMemory same
     (record {
-      does = record { later = next_entry (layout_of s) past event ∷ []; is_planned = refl };
+      does =
+          record {
+            next = next_entry (layout_of s) past event;
+            later = [];
+            is_planned = refl;
+            free = (stop_none (failing (layout_of s) past event) (full_log (layout_of s) past event) h).1;
+          };
       reaches = record { added = []; made = nothing_more past; room = tt };
     })
 
@@ -118,7 +124,8 @@ acts_err {U} s old new event (Faults.NotEnabled c) same h = acts_refused {U = U}
     (ap (λ (l : Layout). stop l old.journal event) (sym same) ∙ h.0) (ap (λ (v : ClusterView). v.journal) h.1)
 acts_err {U} s old new event (Faults.LogFull p) same h = acts_full {U = U} s old.journal new.journal event p
     (ap (λ (l : Layout). stop l old.journal event) (sym same) ∙ h.0) (ap (λ (v : ClusterView). v.journal) h.1)
-acts_err {U} s old new event Faults.NoMemory same h = acts_memory {U = U} s old.journal new.journal event (ap (λ (v : ClusterView). v.journal) h.1)
+acts_err {U} s old new event Faults.NoMemory same h = acts_memory {U = U} s old.journal new.journal event
+    (ap (λ (l : Layout). stop l old.journal event) (sym same) ∙ h.0) (ap (λ (v : ClusterView). v.journal) h.1)
 
 pub acts_made : (s : ScenarioLists) (old new : ClusterView) (event : Event) (r : Result (Unit {0}) EntryFault) → old.layout ≡ layout_of s →
     Makes old new event r → Acts s r old.journal (after_event (layout_of s) event old.journal) new.journal
@@ -231,6 +238,17 @@ step_called s old new event x was now step before is =
     called_after s old.journal x event was now (ap (λ (y : Entry). y.event) step.entry) before is
     ∙ ap (λ (j : List Entry). map (scripted_of s j) s.threads) (sym step.made)
 
--- a journal begins what the drain makes of it
-pub begun : (s : ScenarioLists) (past : List Entry) → IsDrainBeginning s past past
-begun s past = record { turns = 0; planned = past; is_planned = refl; begins = record { later = []; is_planned = nothing_more past } }
+-- a drain that was stopped has ended
+ended : (s : ScenarioLists) (past journal : List Entry) (fault : EntryFault) → IsDrainStopped s past fault journal → IsDrainEnded s past fault journal
+ended s past journal (Faults.NotEnabled c) stopped = stopped
+ended s past journal (Faults.LogFull p) stopped = stopped
+ended s past journal Faults.NoMemory stopped = inr stopped
+
+pub ended_if : (s : ScenarioLists) (past journal : List Entry) (r : Result (Unit {0}) EntryFault) → IfErr r (λ fault. IsDrainStopped s past fault journal) →
+    IfErr r (λ fault. IsDrainEnded s past fault journal)
+ended_if s past journal (Ok done) h = h
+ended_if s past journal (Err fault) h = ended s past journal fault h
+
+-- and so has one that did not begin
+pub not_begun : (s : ScenarioLists) (past journal : List Entry) → journal ≡ past → IsDrainEnded s past Faults.NoMemory journal
+not_begun s past journal same = inl same

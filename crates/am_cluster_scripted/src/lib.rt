@@ -4,7 +4,7 @@
 #![tactic(auto)]
 
 ghost use Rattle.am_model_drain.specs.Cut.{IsDrainedWithRoom};
-ghost use Rattle.am_cluster_drainer.specs.Stops.{IsDrainStopped};
+ghost use Rattle.am_cluster_drainer.specs.Stops.{IsDrainEnded, IsDrainStopped};
 ghost use Rattle.am_model_scripts.specs.Layout.{layout_of};
 ghost use Rattle.am_model.specs.History.{IsHistory};
 ghost use Rattle.am_laws_runs.specs.Drained.{HasShortLogs};
@@ -99,16 +99,16 @@ fn drain_threads(cluster: &mut Cluster, scenario: &Scenario) -> Result<Drained, 
 
 /// Does turns on a cluster of the scenario until no rule applies. Ok: the journal is what the drain makes of the one before, and
 /// no entry met a full log. LogFull: it is what the drain makes before the first entry that meets a full log, which is the part's.
-/// NotEnabled: before the first entry whose event has this condition against it. NoMemory: it is a beginning of what the drain
-/// makes.
-#[tactic(auto, using(crate::proofs::Applying::begun))]
+/// NotEnabled: before the first entry whose event has this condition against it. NoMemory: before an entry that meets no full log, or
+/// nothing was made.
+#[tactic(auto, using(crate::proofs::Applying::ended_if, crate::proofs::Applying::not_begun))]
 pub fn drain_cluster(cluster: &mut Cluster, scenario: &Scenario) -> Result<(), EntryFault>
     requires lawful { IsLawful scenario.now }
     requires packet { scenario.now.network ≡ Packet }
     requires layout { cluster.old.layout ≡ layout_of scenario.now }
     ensures layout { cluster.new.layout ≡ cluster.old.layout }
     ensures drained { OnOk result (IsDrainedWithRoom scenario.now cluster.old.journal cluster.new.journal) }
-    ensures stopped { IfErr result (λ fault. IsDrainStopped scenario.now cluster.old.journal fault cluster.new.journal) }
+    ensures stopped { IfErr result (λ fault. IsDrainEnded scenario.now cluster.old.journal fault cluster.new.journal) }
 {
     match drain_threads(cluster, scenario) {
         Ok(drained) => drained.result,
@@ -117,7 +117,7 @@ pub fn drain_cluster(cluster: &mut Cluster, scenario: &Scenario) -> Result<(), E
 }
 
 /// The same, with how many calls each thread made: `made` has the numbers in the order of the threads, before and after.
-#[tactic(auto, using(crate::proofs::Applying::begun))]
+#[tactic(auto, using(crate::proofs::Applying::ended_if, crate::proofs::Applying::not_begun))]
 pub fn drain(cluster: &mut Cluster, scenario: &Scenario, made: &mut [u32]) -> Result<(), EntryFault>
     requires lawful { IsLawful scenario.now }
     requires packet { scenario.now.network ≡ Packet }
@@ -125,7 +125,7 @@ pub fn drain(cluster: &mut Cluster, scenario: &Scenario, made: &mut [u32]) -> Re
     requires made { made.old ≡ map (λ (t : ThreadLine). length (calls_of t.id cluster.old.journal)) scenario.now.threads }
     ensures layout { cluster.new.layout ≡ cluster.old.layout }
     ensures drained { OnOk result (IsDrainedWithRoom scenario.now cluster.old.journal cluster.new.journal) }
-    ensures stopped { IfErr result (λ fault. IsDrainStopped scenario.now cluster.old.journal fault cluster.new.journal) }
+    ensures stopped { IfErr result (λ fault. IsDrainEnded scenario.now cluster.old.journal fault cluster.new.journal) }
     ensures made { made.new ≡ map (λ (t : ThreadLine). length (calls_of t.id cluster.new.journal)) scenario.now.threads }
 {
     match drain_threads(cluster, scenario) {
