@@ -1,7 +1,5 @@
 -- The first number that passes, and how a search for it goes on.
-use Rattle.std.specs.Prelude.{ltb, is_some}
-use Rattle.std.specs.Option.{option_map}
-use Rattle.std.proofs.Common.{◌≡◌, ℕ, zero, suc, ◌+◌, ◌-◌, ◌<◌, ◌≤◌, Bool, true, false, Option, Some, None, ap, ◌∙◌, arith, if◌then◌else◌}
+use Rattle.std.proofs.Common.{◌≡◌, ℕ, zero, suc, ◌+◌, ◌-◌, ◌<◌, ◌≤◌, Bool, true, false, Some, None, ap, ◌∙◌, arith, if◌then◌else◌}
 use Rattle.am_workers.specs.Turns.Chosen.{first_from}
 
 first_step : (p : ℕ → Bool) (k n : ℕ) → k < n → first_from p k (n - k) ≡ (if p k then Some k else first_from p (k + 1) (n - (k + 1)))

@@ -8,10 +8,9 @@ use Rattle.am_lemmas.proofs.Lists.{slice_get-set_elsewhere}
 use Rattle.am_wire.specs.Links.{free_places, known, waiting}
 use Rattle.am_wire.specs.declared.receiving.LinkIn.{LinkIn}
 use Rattle.am_wire.specs.declared.sending.LinkOut.{LinkOut}
-use Rattle.am_workers_laws.specs.Invariants.Works.{Hand}
 use Rattle.am_workers.specs.Turns.Chosen.{place_after}
-use Rattle.am_workers.specs.WorkerTurns.{AreWhole, AreWholeTo, NoneIsKnown, TakesFirst, place_on}
-use Rattle.am_workers.proofs.Linking.{got_set, same_got}
+use Rattle.am_workers.specs.WorkerTurns.{AreWhole, AreWholeTo, NoneIsKnown, place_on}
+use Rattle.am_workers.proofs.Linking.{got_set}
 
 -- ---- one of the ends that send was pumped
 

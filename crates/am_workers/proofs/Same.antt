@@ -3,7 +3,6 @@ use Rattle.std.specs.Prelude.{position}
 use Rattle.std.specs.Option.{option_map}
 use Rattle.std.proofs.Common.{◌≡◌, ◌∙◌, ℕ, Option, Some, ap, sym, refl, subst}
 use Rattle.am_names.specs.Names.{same_end}
-use Rattle.am_names.specs.declared.EndpointId.{EndpointId}
 use Rattle.am_scenario_types.specs.declared.parts.ScriptCall.{ScriptCall}
 use Rattle.am_workers.specs.Turns.Callers.{due_of}
 use Rattle.am_office_entries.specs.declared.Call.{Call}

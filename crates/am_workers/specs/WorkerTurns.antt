@@ -12,7 +12,7 @@ use Rattle.am_workers_laws.specs.Invariants.Works.{Hand}
 use Rattle.am_workers.specs.Turns.Callers.{CallTurns, next_after}
 use Rattle.am_workers.specs.Turns.Chosen.{chosen_work, next_place, since_after, since_of, turn_after, turn_of}
 use Rattle.am_workers.specs.Turns.Servers.{hand_after, out_of}
-use Rattle.am_workers.specs.Turns.Turns.{WorkTurns, clock_after}
+use Rattle.am_workers.specs.Turns.Turns.{WhyTurned, WorkTurns, clock_after}
 use Rattle.am_workers.specs.declared.turns.turns.InterfaceTurn.{InterfaceTurn}
 use Rattle.am_workers.specs.declared.turns.turns.ThreadTurn.{ThreadTurn}
 use Rattle.am_workers.specs.Stops.{stop_after_call, stop_after_move, stop_after_work}
@@ -67,6 +67,7 @@ AreWholeTo count outs = (k : ℕ) (o : LinkOut) → k < count → slice_get outs
 pub record DoesWork (ids : Ids) (work : Work) (w u : InterfaceWorker) : Type 0 where
   pub made : InterfaceTurn
   pub turn : WorkTurns work w.interface u.interface w.seat.token.me.0 u.seat.token.me.0 made
+  pub why : WhyTurned ids work w.interface w.seat.token.me.0 u.seat.token.me.0 made
   pub hand : u.hand ≡ hand_after w.hand work made
   pub begun : turn_of u.waits ≡ turn_of w.waits
   pub since : since_of u.waits ≡ since_after (turn_of w.waits) (out_of made) (since_of w.waits)

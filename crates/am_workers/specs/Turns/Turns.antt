@@ -1,6 +1,8 @@
 -- What the turns of the workers answer, and what they leave.
-use Rattle.std.specs.Prelude.{◌≡◌, ◌≢◌, ◌⊎◌, ℕ, ◌+◌, ◌<◌, ◌≤◌, ◌^◌, max, false, true, Some, None, List, [], ◌∷◌, ◌++◌, length}
+use Rattle.std.specs.Prelude.{◌≡◌, ◌≢◌, ◌⊎◌, ℕ, ◌+◌, ◌<◌, ◌≤◌, ◌^◌, max, false, true, Option, Some, None, List, [], ◌∷◌, ◌++◌, length, position}
+use Rattle.am_names.specs.declared.EndpointId.{EndpointId}
 use Rattle.am_names.specs.declared.Packet.TheVariants as Packets
+use Rattle.am_names.specs.Names.{same_end}
 use Rattle.am_office_entries.specs.declared.Actor.TheVariants.{Thread}
 use Rattle.am_office_entries.specs.declared.Call.{Call}
 use Rattle.am_office_entries.specs.declared.Event.TheVariants as Events
@@ -20,7 +22,8 @@ use Rattle.am_model_parts.specs.declared.work.Work.{Work}
 use Rattle.am_model_parts.specs.declared.work.Work.TheVariants as Works
 use Rattle.am_model_scripts.specs.Follows.{is_bounced_out}
 use Rattle.am_places.specs.declared.board.Tenure.{Tenure}
-use Rattle.am_workers_laws.specs.Invariants.Seats.{EndPass, IsBusy, Stayed, Stays}
+use Rattle.am_workers_laws.specs.Invariants.Seats.{EndPass, Ids, IsBusy, Stayed, Stays}
+use Rattle.am_workers.specs.Turns.Tests.{can_do, is_fit, may_alone}
 use Rattle.am_workers.specs.declared.turns.turns.ThreadTurn.{ThreadTurn}
 use Rattle.am_workers.specs.declared.turns.turns.ThreadTurn.TheVariants as Turns
 use Rattle.am_workers.specs.declared.turns.turns.InterfaceTurn.{InterfaceTurn}
@@ -100,6 +103,7 @@ pub record IsWork (work : Work) (i j : InterfaceView) (set : EndSettings) (log :
   pub stamped : x.stamp ≡ stamp_after (last_stamp log) i.log work
   pub low : x.stamp ≤ 2 ^ 63
   pub bounces : MayBounce i.settings.bounces (state_by set log) work
+  pub can : can_do work i set log ≡ true
   pub logged : j ≡ record i { log = i.log ++ x ∷ [] }
 
 -- a log has as many entries as it may
@@ -115,9 +119,10 @@ IsEnabled work i set log = failing_at (own i) (state_by set log) work ≡ None
 abbrev pub InterfaceFound : Work → InterfaceView → InterfaceView → InterfaceTurn → EndSettings → List Entry → Type 0
 InterfaceFound work i j (Worked.Made t) set log = IsWork work i j set log t.entry × (t.out ≡ emitted_of t.entry)
 InterfaceFound work i j (Worked.Busy holder) set log = ⊥
-InterfaceFound work i j Worked.NotYet set log = j ≡ i
-InterfaceFound work i j Worked.Full set log = IsEnabled work i set log × IsSomeFull i set log × (j ≡ i)
-InterfaceFound work i j Worked.NoMemory set log = IsEnabled work i set log × (length log ≢ set.log) × (length i.log ≢ i.settings.log) × (j ≡ i)
+InterfaceFound work i j Worked.NotYet set log = (j ≡ i) × (can_do work i set log ≡ false)
+InterfaceFound work i j Worked.Full set log = IsEnabled work i set log × IsSomeFull i set log × (j ≡ i) × (can_do work i set log ≡ true)
+InterfaceFound work i j Worked.NoMemory set log =
+    IsEnabled work i set log × (length log ≢ set.log) × (length i.log ≢ i.settings.log) × (j ≡ i) × (can_do work i set log ≡ true)
 
 -- what it added
 abbrev pub worked_in : InterfaceTurn → List Entry
@@ -145,6 +150,7 @@ pub record IsAlone (work : Work) (i j : InterfaceView) (x : Entry) : Type 0 wher
   pub stamped : x.stamp ≡ stamp_after 0 i.log work
   pub low : x.stamp ≤ 2 ^ 63
   pub tries : HasTries i work
+  pub can : may_alone i work ≡ true
   pub logged : j ≡ record i { log = i.log ++ x ∷ [] }
 
 -- the seat added nothing: it did not enter, it met another seat, or it left as it had entered
@@ -160,8 +166,42 @@ pub data IsDone (work : Work) (i j : InterfaceView) (v w : EndPass) (x : Entry) 
 abbrev pub AloneTurns : Work → InterfaceView → InterfaceView → InterfaceTurn → Type 0
 AloneTurns work i j (Worked.Made t) = IsAlone work i j t.entry × (t.out ≡ emitted_of t.entry)
 AloneTurns work i j (Worked.Busy holder) = ⊥
-AloneTurns work i j turn = j ≡ i
+AloneTurns work i j Worked.NotYet = (j ≡ i) × (may_alone i work ≡ false)
+AloneTurns work i j Worked.Full = (j ≡ i) × (may_alone i work ≡ true) × (length i.log ≡ i.settings.log)
+AloneTurns work i j Worked.NoMemory = (j ≡ i) × (may_alone i work ≡ true) × (length i.log ≢ i.settings.log)
 
 abbrev pub WorkTurns : Work → InterfaceView → InterfaceView → EndPass → EndPass → InterfaceTurn → Type 0
 WorkTurns work i j v w (Worked.Made t) = IsDone work i j v w t.entry × (t.out ≡ emitted_of t.entry)
 WorkTurns work i j v w turn = AddsNothing v w × (j ≡ i)
+
+-- ---- why it did not do it
+
+-- at the endpoint that the work needs: it is of another node, or a seat was inside, or it was found so. Where the endpoint was entered, nothing is done exactly
+-- where the work can't be done, a full log is told only where it can be, and want of memory only where no log is full
+abbrev pub FoundThere : Ids → EndpointId → Work → InterfaceView → EndPass → EndPass → InterfaceTurn → Type 0
+FoundThere ids end work i v w (Worked.Made t) = Unit {0}
+FoundThere ids end work i v w (Worked.Busy holder) = (k : ℕ) × (position (same_end end) ids ≡ Some k) × IsBusy k holder v w
+FoundThere ids end work i v w Worked.NotYet =
+    ((position (same_end end) ids ≡ None) × (w ≡ v))
+    ⊎ ((k : ℕ) × (position (same_end end) ids ≡ Some k) × Stayed k [] (λ (set : EndSettings) (log : List Entry). can_do work i set log ≡ false) v w)
+FoundThere ids end work i v w Worked.Full =
+    (k : ℕ) × (position (same_end end) ids ≡ Some k) × Stayed k [] (λ (set : EndSettings) (log : List Entry). (can_do work i set log ≡ true) × IsSomeFull i set log) v w
+FoundThere ids end work i v w Worked.NoMemory =
+    (k : ℕ) × (position (same_end end) ids ≡ Some k) × Stayed k [] (λ (set : EndSettings) (log : List Entry). (can_do work i set log ≡ true) × (length log ≢ set.log) × (length i.log ≢ i.settings.log)) v w
+
+-- a work that touches no endpoint: nothing is done exactly where a test of it fails
+abbrev pub FoundAlone : Work → InterfaceView → InterfaceTurn → Type 0
+FoundAlone work i (Worked.Made t) = Unit {0}
+FoundAlone work i (Worked.Busy holder) = ⊥
+FoundAlone work i Worked.NotYet = may_alone i work ≡ false
+FoundAlone work i Worked.Full = (may_alone i work ≡ true) × (length i.log ≡ i.settings.log)
+FoundAlone work i Worked.NoMemory = (may_alone i work ≡ true) × (length i.log ≢ i.settings.log)
+
+abbrev pub FoundAt : Ids → Work → InterfaceView → EndPass → EndPass → InterfaceTurn → Option EndpointId → Type 0
+FoundAt ids work i v w turn None = (w ≡ v) × FoundAlone work i turn
+FoundAt ids work i v w turn (Some end) = FoundThere ids end work i v w turn
+
+-- a work that does not fit is not done, and each other one by what was found of what it touches
+abbrev pub WhyTurned : Ids → Work → InterfaceView → EndPass → EndPass → InterfaceTurn → Type 0
+WhyTurned ids work i v w turn =
+    ((is_fit i.settings work ≡ false) × (w ≡ v) × (turn ≡ Worked.NotYet)) ⊎ ((is_fit i.settings work ≡ true) × FoundAt ids work i v w turn (needs (own i) work))

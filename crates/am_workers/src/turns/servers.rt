@@ -7,7 +7,7 @@ ghost use Rattle.am_names.specs.declared.Packet.{Packet};
 ghost use Rattle.am_scenario_types.specs.Lists.{ScenarioLists};
 ghost use Rattle.am_workers_laws.specs.Invariants.Seats.{IsIdle, SameSeat};
 ghost use Rattle.am_workers.specs.Turns.Servers.{GoesOut, HandHolds, IsInterfaceOf, hand_after, out_of, sent_to};
-ghost use Rattle.am_workers.specs.Turns.Turns.{WorkTurns};
+ghost use Rattle.am_workers.specs.Turns.Turns.{WhyTurned, WorkTurns};
 ghost use Rattle.am_workers_laws.specs.Invariants.Works.{InterfaceWorks};
 ghost use Rattle.std.specs.Prelude.{◌≡◌, ◌≢◌, ◌+◌, ◌++◌, ℕ, IfSome, List, Some, length, slice_get};
 ghost use lib.ListN.{get_elem?};
@@ -62,6 +62,7 @@ pub fn serve(
     ensures idle { IsIdle places.now.board.shared.table_id seat.new.token }
     ensures seat { SameSeat seat.old.token.me.0 seat.new.token.me.0 }
     ensures turn { WorkTurns work.now interface.old interface.new seat.old.token.me.0 seat.new.token.me.0 result }
+    ensures why { WhyTurned ids.now work.now interface.old seat.old.token.me.0 seat.new.token.me.0 result }
     ensures hand { hand.new ≡ hand_after hand.old work.now result }
     ensures settings { interface.new.settings ≡ interface.old.settings }
     ensures out { IfSome (out_of result) (GoesOut interface.old) }

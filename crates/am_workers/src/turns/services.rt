@@ -8,8 +8,9 @@ ghost use Rattle.am_model_parts.specs.declared.work.Work.TheVariants as Works;
 ghost use Rattle.am_workers_laws.specs.Invariants.Seats.{IsIdle};
 ghost use Rattle.am_workers.specs.Turns.Chosen.{may_retry};
 ghost use Rattle.am_workers.specs.Turns.Servers.{IfMade, IsRanged};
-ghost use Rattle.am_workers.specs.Turns.Turns.{AloneTurns, HasTries, WorkTurns};
-ghost use Rattle.std.specs.Prelude.{◌≡◌, ◌≢◌, ◌<◌, ◌^◌, ℕ, IsTrue, None, Some, length, slice_get};
+ghost use Rattle.am_workers.specs.Turns.Tests.{has_tries, is_fit, may_alone};
+ghost use Rattle.am_workers.specs.Turns.Turns.{AloneTurns, FoundThere, HasTries, WhyTurned, WorkTurns};
+ghost use Rattle.std.specs.Prelude.{◌≡◌, ◌≢◌, ◌<◌, ◌^◌, ℕ, IsTrue, true, None, Some, length, slice_get};
 ghost use lib.ListN.{get_elem?};
 ghost use mathlib.Core.Option.{some};
 
@@ -46,7 +47,8 @@ pub(crate) fn may_retry(
 fn has_tries(interface: &Interface, set: &IfaceSettings, work: &Work) -> bool
     requires set { set.now ≡ interface.now.settings }
     requires fits { FitsInterface interface.now work.now }
-    ensures { IsTrue result → HasTries interface.now work.now }
+    ensures value { result ≡ has_tries interface.now work.now }
+    ensures tries { IsTrue result → HasTries interface.now work.now }
 {
     match work {
         Work::Receive(_) | Work::Bind(_) => true,
@@ -58,6 +60,7 @@ fn has_tries(interface: &Interface, set: &IfaceSettings, work: &Work) -> bool
 fn fits_here(interface: &Interface, set: &IfaceSettings, work: &Work) -> bool
     requires set { set.now ≡ interface.now.settings }
     requires lawful { AreLawful set.now }
+    ensures value { result ≡ is_fit set.now work.now }
     ensures fits { IsTrue result → FitsInterface interface.now work.now }
     ensures ranged { IsTrue result → IsRanged set.now work.now }
 {
@@ -71,6 +74,7 @@ fn work_alone(interface: &mut Interface, work: &Work) -> InterfaceTurn
     requires tries { HasTries interface.old work.now }
     requires last { last_stamp interface.old.log < 2 ^ 63 }
     requires packet { stamp_in work.now < 2 ^ 63 }
+    requires passed { may_alone interface.old work.now ≡ true }
     ensures { AloneTurns work.now interface.old interface.new result }
 {
     match interface.turn_alone(0, work) {
@@ -81,6 +85,18 @@ fn work_alone(interface: &mut Interface, work: &Work) -> InterfaceTurn
     }
 }
 
+/// Whether a work that touches no endpoint may be done.
+fn may_alone(interface: &Interface, set: &IfaceSettings, work: &Work) -> bool
+    requires set { set.now ≡ interface.now.settings }
+    requires fits { FitsInterface interface.now work.now }
+    ensures value { result ≡ may_alone interface.now work.now }
+    ensures tries { IsTrue result → HasTries interface.now work.now }
+    ensures last { IsTrue result → last_stamp interface.now.log < 2 ^ 63 }
+    ensures packet { IsTrue result → stamp_in work.now < 2 ^ 63 }
+{
+    has_tries(interface, set, work) && interface.last_stamp() < LAST && work.stamp() < LAST
+}
+
 /// Does a work that touches no endpoint.
 fn alone_turn(interface: &mut Interface, set: &IfaceSettings, work: &Work) -> InterfaceTurn
     requires set { set.now ≡ interface.old.settings }
@@ -88,7 +104,7 @@ fn alone_turn(interface: &mut Interface, set: &IfaceSettings, work: &Work) -> In
     requires alone { needs (own interface.old) work.now ≡ None }
     ensures { AloneTurns work.now interface.old interface.new result }
 {
-    if !has_tries(interface, set, work) || interface.last_stamp() >= LAST || work.stamp() >= LAST {
+    if !may_alone(interface, set, work) {
         return InterfaceTurn::NotYet;
     }
     work_alone(interface, work)
@@ -114,6 +130,7 @@ fn with_turn(
     requires needs { needs (own interface.old) work.now ≡ Some end }
     ensures idle { IsIdle places.now.board.shared.table_id seat.new.token }
     ensures turn { WorkTurns work.now interface.old interface.new seat.old.token.me.0 seat.new.token.me.0 result }
+    ensures why { FoundThere ids.now end work.now interface.old seat.old.token.me.0 seat.new.token.me.0 result }
 {
     match place_of(ids, end) {
         None => InterfaceTurn::NotYet,
@@ -122,6 +139,7 @@ fn with_turn(
 }
 
 /// A turn of an interface with this work. Where a test of it fails, or the endpoint that it needs is of another node, nothing is done.
+#[tactic(auto, using(crate::proofs::WorkTurns::why_alone, crate::proofs::WorkTurns::why_there, crate::proofs::WorkTurns::why_unfit))]
 pub fn work_turn(
     places: &Places<EndBook>,
     seat: &mut Seat<EndBook>,
@@ -138,6 +156,7 @@ pub fn work_turn(
     requires set { set.now ≡ interface.old.settings }
     ensures idle { IsIdle places.now.board.shared.table_id seat.new.token }
     ensures turn { WorkTurns work.now interface.old interface.new seat.old.token.me.0 seat.new.token.me.0 result }
+    ensures why { WhyTurned ids.now work.now interface.old seat.old.token.me.0 seat.new.token.me.0 result }
     ensures ranged { IfMade result (IsRanged set.now work.now) }
 {
     if !fits_here(interface, set, work) {

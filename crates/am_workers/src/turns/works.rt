@@ -9,8 +9,9 @@ ghost use Rattle.am_model_parts.specs.Interface.{channel_in, home_in, needs, sta
 ghost use Rattle.am_model.specs.Channels.{bound_message};
 ghost use Rattle.am_model.specs.Endpoint.{entry_at, front, is_direct, is_on_disk};
 ghost use Rattle.am_model_scripts.specs.Follows.{is_bounced_out};
+ghost use Rattle.am_workers.specs.Turns.Tests.{flies_at, is_home_of, is_low, is_of, is_ready, may_go, passes};
 ghost use Rattle.am_workers.specs.Turns.Turns.{InterfaceFound, MayBounce, SettlesHere, worked_in};
-ghost use Rattle.std.specs.Prelude.{◌≡◌, ◌<◌, ◌^◌, ◌++◌, IsTrue, Some, false, max};
+ghost use Rattle.std.specs.Prelude.{◌≡◌, ◌<◌, ◌^◌, ◌++◌, ◌&&◌, IsTrue, Some, false, not, true};
 
 use crate::turns::turns::InterfaceTurn;
 use am_endpoint::Endpoint;
@@ -18,7 +19,7 @@ use am_iface::{IfaceSettings, Interface, Work};
 use am_model::{EntryFault, Queued, is_on_disk};
 use am_names::{EndpointId, NodeId, Packet};
 use am_office_entries::Place;
-use am_workers_laws::books::{EndBook, is_spent};
+use am_workers_laws::books::{EndBook, LAST};
 
 /// The node of an endpoint, if it is declared.
 pub(crate) fn home(set: &IfaceSettings, end: EndpointId) -> Option<NodeId>
@@ -31,7 +32,8 @@ pub(crate) fn home(set: &IfaceSettings, end: EndpointId) -> Option<NodeId>
 /// Whether the endpoint is of the node where the settings have it.
 fn is_at_home(set: &IfaceSettings, end: &Endpoint) -> bool
     requires lawful { AreLawful set.now }
-    ensures { IsTrue result → entry_at set.now.homes end.now.settings.id.0 ≡ Some end.now.settings.node }
+    ensures value { result ≡ is_home_of (entry_at set.now.homes end.now.settings.id.0) end.now.settings.node }
+    ensures home { IsTrue result → entry_at set.now.homes end.now.settings.id.0 ≡ Some end.now.settings.node }
 {
     match home(set, end.id()) {
         Some(node) => node.0 == end.node().0,
@@ -43,6 +45,7 @@ fn is_at_home(set: &IfaceSettings, end: &Endpoint) -> bool
 fn may_go(set: &IfaceSettings, interface: &Interface, front: Option<Queued>) -> bool
     requires lawful { AreLawful set.now }
     requires set { set.now ≡ interface.now.settings }
+    ensures value { result ≡ may_go interface.now.settings front }
     ensures home { IsTrue result → IsHomeKnown (own interface.now) front }
     ensures bounces { IsTrue result → is_bounced_out interface.now.settings.bounces front ≡ false }
 {
@@ -58,7 +61,8 @@ fn may_go(set: &IfaceSettings, interface: &Interface, front: Option<Queued>) -> 
 fn is_in_flight(interface: &Interface, peer: NodeId, channel: u8, end: &Endpoint) -> bool
     requires peer { peer.0 < interface.now.settings.nodes }
     requires channel { channel < interface.now.settings.channels }
-    ensures { IsTrue result → IsInFlight (state_after end.now) (bound_message (channel_in (own interface.now) peer channel) interface.now.log) }
+    ensures value { result ≡ flies_at (state_after end.now) (bound_message (channel_in (own interface.now) peer channel) interface.now.log) }
+    ensures flies { IsTrue result → IsInFlight (state_after end.now) (bound_message (channel_in (own interface.now) peer channel) interface.now.log) }
 {
     match interface.bound(peer, channel) {
         None => true,
@@ -70,13 +74,11 @@ fn is_in_flight(interface: &Interface, peer: NodeId, channel: u8, end: &Endpoint
 fn may_bind(set: &IfaceSettings, interface: &Interface, end: &Endpoint) -> bool
     requires lawful { AreLawful set.now }
     requires set { set.now ≡ interface.now.settings }
+    ensures value { result ≡ (not (is_on_disk (state_after end.now).head.place) && may_go interface.now.settings (front (state_after end.now))) }
     ensures home { IsTrue result → IsHomeKnown (own interface.now) (front (state_after end.now)) }
     ensures bounces { IsTrue result → is_bounced_out interface.now.settings.bounces (front (state_after end.now)) ≡ false }
 {
-    match end.place() {
-        Place::Disk => false,
-        Place::Host | Place::Frame(_) | Place::Direct => may_go(set, interface, end.front()),
-    }
+    !is_on_disk(end.place()) && may_go(set, interface, end.front())
 }
 
 /// Whether the endpoint is as the work needs it. The last try of a binding is left to others.
@@ -84,6 +86,7 @@ fn is_ready_for(set: &IfaceSettings, interface: &Interface, work: &Work, end: &E
     requires lawful { AreLawful set.now }
     requires set { set.now ≡ interface.now.settings }
     requires fits { FitsInterface interface.now work.now }
+    ensures value { result ≡ is_ready interface.now (state_after end.now) work.now }
     ensures home { IsTrue result → KnowsHome (own interface.now) (state_after end.now) work.now }
     ensures flies { IsTrue result → FitsEndpoint (own interface.now) (state_after end.now) work.now }
     ensures bounces { IsTrue result → MayBounce interface.now.settings.bounces (state_after end.now) work.now }
@@ -102,6 +105,7 @@ fn is_ready_for(set: &IfaceSettings, interface: &Interface, work: &Work, end: &E
 /// Whether the endpoint is one of the packet network, of the node and of the limit that the settings have.
 fn is_of(set: &IfaceSettings, end: &Endpoint) -> bool
     requires lawful { AreLawful set.now }
+    ensures value { result ≡ is_of set.now end.now.settings (state_after end.now) }
     ensures home { IsTrue result → entry_at set.now.homes end.now.settings.id.0 ≡ Some end.now.settings.node }
     ensures bounces { IsTrue result → end.now.settings.bounces ≡ set.now.bounces }
     ensures network { IsTrue result → is_direct (state_after end.now).head.place ≡ false }
@@ -110,7 +114,8 @@ fn is_of(set: &IfaceSettings, end: &Endpoint) -> bool
 }
 
 fn is_on_network(place: Place) -> bool
-    ensures { IsTrue result → is_direct place ≡ false }
+    ensures value { result ≡ not (is_direct place) }
+    ensures network { IsTrue result → is_direct place ≡ false }
 {
     match place {
         Place::Direct => false,
@@ -132,6 +137,7 @@ fn work_on(interface: &mut Interface, work: &Work, book: &mut EndBook) -> Interf
     requires last { last_stamp interface.old.log < 2 ^ 63 }
     requires last_there { last_stamp book.old.end.value.log < 2 ^ 63 }
     requires packet { stamp_in work.now < 2 ^ 63 }
+    requires passed { passes work.now interface.old book.old.end.value.settings book.old.end.value.log ≡ true }
     ensures settings { book.new.end.value.settings ≡ book.old.end.value.settings }
     ensures added { book.new.end.value.log ≡ book.old.end.value.log ++ worked_in result }
     ensures found { InterfaceFound work.now interface.old interface.new result book.old.end.value.settings book.old.end.value.log }
@@ -142,6 +148,17 @@ fn work_on(interface: &mut Interface, work: &Work, book: &mut EndBook) -> Interf
         Err(EntryFault::LogFull(_)) => InterfaceTurn::Full,
         Err(EntryFault::NoMemory) => InterfaceTurn::NoMemory,
     }
+}
+
+/// Whether a stamp may follow those of the interface, of the packet in hand and of the endpoint.
+fn is_low(interface: &Interface, work: &Work, end: &Endpoint) -> bool
+    ensures value { result ≡ is_low interface.now work.now end.now.log }
+    ensures last { IsTrue result → last_stamp interface.now.log < 2 ^ 63 }
+    ensures last_there { IsTrue result → last_stamp end.now.log < 2 ^ 63 }
+    ensures packet { IsTrue result → stamp_in work.now < 2 ^ 63 }
+{
+    let last = interface.last_stamp().max(work.stamp());
+    last.max(end.last_stamp()) < LAST
 }
 
 /// Does the work at the endpoint that it needs, where each test of it holds.
@@ -162,8 +179,7 @@ pub(crate) fn work_at(
     if !is_of(set, &book.end) || !is_ready_for(set, interface, work, &book.end) {
         return InterfaceTurn::NotYet;
     }
-    let last = interface.last_stamp().max(work.stamp());
-    if is_spent(last, &book.end) {
+    if !is_low(interface, work, &book.end) {
         return InterfaceTurn::NotYet;
     }
     work_on(interface, work, book)

@@ -1,4 +1,4 @@
-use Rattle.std.proofs.Common.{◌≡◌, ◌<◌, ◌^◌, Err, Some, false, subst, sym}
+use Rattle.std.proofs.Common.{◌≡◌, ◌<◌, ◌^◌, Err, Some, false, true, refl, subst, sym}
 use Rattle.am_workers_laws.specs.Books.Books.{IsBook}
 use Rattle.am_endpoint.specs.View.{EndpointView, state_after}
 use Rattle.am_iface.specs.View.{own}
@@ -8,11 +8,12 @@ use Rattle.am_model_parts.specs.Granted.{FitsEndpoint}
 use Rattle.am_model_parts.specs.Interface.{failing_at, needs}
 use Rattle.am_model.specs.Parts.{last_stamp}
 use Rattle.am_model.specs.Endpoint.{is_direct}
+use Rattle.am_workers.specs.Turns.Tests.{passes}
 use Rattle.am_workers.specs.Turns.Turns.{InterfaceFound, MayBounce, SettlesHere}
 use Rattle.am_workers.specs.declared.turns.turns.InterfaceTurn.TheVariants as Worked
 use Rattle.am_workers.proofs.TurnBooks.{TellsDisabled, TellsFull, worked_book}
 use Rattle.am_workers.proofs.Resting.{turn_keeps}
-use Rattle.am_workers.proofs.WorkTurns.{full_found, starved_found, worked_found}
+use Rattle.am_workers.proofs.WorkTurns.{can_false, full_found, starved_found, worked_found}
 use Rattle.am_workers.proofs.turns.works.work_on.Goals as goal
 
 pub invariant_of-book : goal.invariant_of-book
@@ -38,20 +39,33 @@ returns-in-Ok-clause-found c =
     c.requires.needs) c.in-Ok.ensures.disabled c.in-Ok.ensures.event c.in-Ok.ensures.outcome c.in-Ok.ensures.stamp c.in-Ok.ensures.out
     c.in-Ok.ensures.logged
     (subst (λ (d : EndpointView). MayBounce i.settings.bounces (state_after d) w) same c.requires.bounces) c.requires.last
-    (subst (λ (d : EndpointView). last_stamp d.log < 2 ^ 63) same c.requires.last_there) c.requires.packet)
+    (subst (λ (d : EndpointView). last_stamp d.log < 2 ^ 63) same c.requires.last_there) c.requires.packet
+    (subst (λ (d : EndpointView). passes w i d.settings d.log ≡ true) same c.requires.passed))
 
 pub returns-in-Err-LogFull-clause-found : goal.returns-in-Err-LogFull-clause-found
 returns-in-Err-LogFull-clause-found c =
-    let e = c.deref_mut.result.now in let i = c.args.interface.now in let w = c.args.work.now in
+    let e = c.deref_mut.result.now in let i = c.args.interface.now in let w = c.args.work.now in let same = sym c.deref_mut.ensures.value in
     subst (λ (d : EndpointView). InterfaceFound w i c.turn_with.new.self Worked.Full d.settings d.log) c.deref_mut.ensures.value
     (full_found e i c.turn_with.new.self c.in-Err-LogFull.field-0-0 (failing_at (own i) (state_after e) w)
     (subst (λ (f : EntryFault). TellsFull (Err f) (failing_at (own i) (state_after e) w) (IsFullOf i e)) c.in-Err-LogFull.field-0-is
-    c.in-Err-LogFull.ensures.full) c.in-Err-LogFull.ensures.err)
+    c.in-Err-LogFull.ensures.full) c.in-Err-LogFull.ensures.err (passes w i e.settings e.log)
+    (subst (λ (d : EndpointView). passes w i d.settings d.log ≡ true) same c.requires.passed))
 
 pub returns-in-Err-NoMemory-clause-found : goal.returns-in-Err-NoMemory-clause-found
 returns-in-Err-NoMemory-clause-found c =
     let e = c.deref_mut.result.now in let i = c.args.interface.now in let w = c.args.work.now in let f = c.in-Err-NoMemory in
+    let same = sym c.deref_mut.ensures.value in
     subst (λ (d : EndpointView). InterfaceFound w i c.turn_with.new.self Worked.NoMemory d.settings d.log) c.deref_mut.ensures.value
     (starved_found e i c.turn_with.new.self (failing_at (own i) (state_after e) w)
     (subst (λ (x : EntryFault). TellsDisabled (Err x) (failing_at (own i) (state_after e) w)) f.field-0-is f.ensures.disabled)
-    (subst (λ (x : EntryFault). TellsFull (Err x) (failing_at (own i) (state_after e) w) (IsFullOf i e)) f.field-0-is f.ensures.full) f.ensures.err)
+    (subst (λ (x : EntryFault). TellsFull (Err x) (failing_at (own i) (state_after e) w) (IsFullOf i e)) f.field-0-is f.ensures.full) f.ensures.err
+    (passes w i e.settings e.log) (subst (λ (d : EndpointView). passes w i d.settings d.log ≡ true) same c.requires.passed))
+
+pub returns-in-Err-NotEnabled-clause-found : goal.returns-in-Err-NotEnabled-clause-found
+returns-in-Err-NotEnabled-clause-found c =
+    let e = c.deref_mut.result.now in let i = c.args.interface.now in let w = c.args.work.now in let f = c.in-Err-NotEnabled in
+    subst (λ (d : EndpointView). InterfaceFound w i c.turn_with.new.self Worked.NotYet d.settings d.log) c.deref_mut.ensures.value (
+      f.ensures.err,
+      can_false (passes w i e.settings e.log) (failing_at (own i) (state_after e) w) f.field-0-0
+          ((subst (λ (x : EntryFault). TellsDisabled (Err x) (failing_at (own i) (state_after e) w)) f.field-0-is f.ensures.disabled f.field-0-0).0 refl),
+    )
