@@ -1,3 +1,4 @@
 mod Fed
 mod Linked
 mod InTurn
+mod Works

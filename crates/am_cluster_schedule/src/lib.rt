@@ -11,10 +11,12 @@ ghost use Rattle.am_scenario_types.specs.declared.parts.Network.TheVariants as N
 ghost use Rattle.am_model_scripts.specs.Layout.{layout_of};
 ghost use Rattle.std.specs.Prelude.{◌≡◌, [], IfErr, IfOk};
 
+mod lone;
 mod made;
 mod order;
 mod turns;
 
+pub use crate::lone::a_lone_worker_makes_its_work;
 use crate::made::none_made;
 use crate::order::Order;
 use crate::turns::take_turns;
