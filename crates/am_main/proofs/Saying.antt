@@ -14,10 +14,10 @@ use Rattle.am_main.proofs.Statuses.{never}
 use Rattle.am_check.specs.declared.faults.CheckStop.{CheckStop}
 use Rattle.am_check.specs.declared.faults.CheckStop.TheVariants as Stops
 use Rattle.am_main_check.specs.Checks.{Tells, yes}
-use Rattle.am_main_count.specs.Counts.{CountAnswers, CountsWords}
+use Rattle.am_main_run.specs.Counts.Counts.{CountAnswers, CountsWords}
 use Rattle.am_main_lines.specs.Lines.{Answer}
 use Rattle.am_main_run.specs.Runs.{MakeAnswers, PrintsRun, RunAnswers, Summarizes}
-use Rattle.am_main_segments.specs.Segments.{PrintsSegments, SegmentsAnswers}
+use Rattle.am_main_run.specs.Segments.Segments.{PrintsSegments, SegmentsAnswers}
 use Rattle.am_main_step.specs.Meaning.{PrintsHistory, StepAnswers}
 use Rattle.am_scenario.specs.Grammar.{grammar}
 use Rattle.am_scenario_types.specs.declared.faults.ScenarioFault.{ScenarioFault}

@@ -12,10 +12,10 @@ use Rattle.am_main.specs.declared.commands.Command.TheVariants as Commands
 use Rattle.am_check.specs.declared.faults.CheckStop.{CheckStop}
 use Rattle.am_check.specs.declared.faults.CheckStop.TheVariants as Stops
 use Rattle.am_main_check.specs.Checks.{Tells}
-use Rattle.am_main_count.specs.Counts.{CountAnswers}
+use Rattle.am_main_run.specs.Counts.Counts.{CountAnswers}
 use Rattle.am_main_lines.specs.Lines.{Answer}
 use Rattle.am_main_run.specs.Runs.{MakeAnswers, RunAnswers}
-use Rattle.am_main_segments.specs.Segments.{SegmentsAnswers}
+use Rattle.am_main_run.specs.Segments.Segments.{SegmentsAnswers}
 use Rattle.am_main_step.specs.Meaning.{StepAnswers}
 use Rattle.am_scenario.specs.Grammar.{grammar}
 use Rattle.am_scenario_types.specs.declared.faults.ScenarioFault.{ScenarioFault}

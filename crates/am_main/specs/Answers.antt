@@ -6,11 +6,11 @@ use Rattle.am_io.specs.Whole.{IsAll, IsLonger}
 use Rattle.am_main.specs.declared.commands.Command.{Command}
 use Rattle.am_main.specs.declared.commands.Command.TheVariants as Commands
 use Rattle.am_main_check.specs.Checks.{CheckAnswers}
-use Rattle.am_main_count.specs.Counts.{CountAnswers}
+use Rattle.am_main_run.specs.Counts.Counts.{CountAnswers}
 use Rattle.am_main_lines.specs.Lines.{Answer}
 use Rattle.am_main_lines.specs.Offers.{IsOffered, IsWhole, no_memory, read_fault, too_long}
 use Rattle.am_main_run.specs.Runs.{MakeAnswers, RunAnswers}
-use Rattle.am_main_segments.specs.Segments.{SegmentsAnswers}
+use Rattle.am_main_run.specs.Segments.Segments.{SegmentsAnswers}
 use Rattle.am_main_step.specs.Meaning.{StepAnswers}
 use Rattle.am_scenario.specs.Grammar.{grammar}
 use Rattle.am_scenario_types.specs.declared.parts.Form.TheVariants as Forms

@@ -7,10 +7,10 @@ use Rattle.am_main_lines.specs.Offers.{IsWhole}
 use Rattle.am_main.specs.Commands.{reads_text}
 use Rattle.am_main.specs.declared.commands.Command.{Command}
 use Rattle.am_main.specs.declared.commands.Command.TheVariants as Commands
-use Rattle.am_main_count.specs.Counts.{CountsWords}
+use Rattle.am_main_run.specs.Counts.Counts.{CountsWords}
 use Rattle.am_main_lines.specs.Lines.{Answer}
 use Rattle.am_main_run.specs.Runs.{PrintsRun, Summarizes}
-use Rattle.am_main_segments.specs.Segments.{PrintsSegments}
+use Rattle.am_main_run.specs.Segments.Segments.{PrintsSegments}
 use Rattle.am_main_step.specs.Meaning.{PrintsHistory}
 use Rattle.am_scenario.specs.Grammar.{grammar}
 use Rattle.am_scenario_types.specs.declared.parts.Form.{Form}

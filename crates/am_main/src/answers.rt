@@ -9,10 +9,10 @@ ghost use Rattle.am_session.specs.Meaning.{SessionMeans};
 
 use crate::commands::Command;
 use am_main_check::check_output;
-use am_main_count::count_output;
 use am_main_lines::Output;
+use am_main_run::counts::count_output;
+use am_main_run::segments::segments_output;
 use am_main_run::{make_output, run_output};
-use am_main_segments::segments_output;
 use am_main_step::step_output;
 use am_session::{SessionOutput, session_output};
 use std::alloc::{AllocError, Global};

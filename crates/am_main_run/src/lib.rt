@@ -1,9 +1,11 @@
-//! The commands `run` and `make`: the run of a scenario, with its threads or without, and what is printed of it.
+//! The commands `run`, `make`, `segments` and `count`: the runs of a scenario, with its threads or without, and what is printed of them.
 #![tactic(auto)]
 
+pub mod counts;
 mod laws;
 mod makes;
 mod runs;
+pub mod segments;
 
 pub use crate::laws::have_one_answer;
 pub use crate::makes::make_output;

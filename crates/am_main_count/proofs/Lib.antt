@@ -1,3 +1,0 @@
-mod CountAnswers
-mod Ascending
-mod OneAnswer

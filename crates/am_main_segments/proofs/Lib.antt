@@ -1,2 +1,0 @@
-mod SegmentMeaning
-mod OneAnswer

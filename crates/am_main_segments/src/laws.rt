@@ -1,9 +1,0 @@
-//! What the definitions of the answer say in other words.
-
-ghost use Rattle.am_main_segments.specs.Segments.{SegmentsHaveOneAnswer};
-
-/// The command `segments` has at most one answer to a text whose scenario has no turns: a status and a text.
-#[tactic(auto, using(crate::proofs::OneAnswer::segments_have_one_answer))]
-pub fn segments_have_one_answer()
-    ensures { SegmentsHaveOneAnswer }
-{}
