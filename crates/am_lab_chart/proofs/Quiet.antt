@@ -10,12 +10,12 @@ use Rattle.am_lab_picture.specs.declared.data.Row.{Row}
 use Rattle.am_lab_picture.specs.declared.data.Span.{Span}
 use Rattle.am_lab_xml.specs.Trees.{each}
 use Rattle.am_lab_xml.specs.Trees.{Content as Contents}
-use Rattle.am_lab_layout.specs.declared.signs.Link.{Link}
+use Rattle.am_lab_picture.specs.declared.layout.signs.Link.{Link}
 use Rattle.am_lab_chart.specs.declared.tables.TheConstants.{STYLE}
-use Rattle.am_lab_layout.specs.Layout.{has_interfaces, has_text, height, left_of, width, x_of_interface, y_of}
-use Rattle.am_lab_layout.specs.Words.{class_of, fate_class, fate_sign, frame_of, place_class}
+use Rattle.am_lab_picture.specs.Layout.Layout.{has_interfaces, has_text, height, left_of, width, x_of_interface, y_of}
+use Rattle.am_lab_picture.specs.Layout.Words.{class_of, fate_class, fate_sign, frame_of, place_class}
 use Rattle.am_lab_chart.specs.Captions.{sign_at}
-use Rattle.am_lab_layout.specs.Signs.{ending_sign, inner_of, label_of, sign_of, spot_of}
+use Rattle.am_lab_picture.specs.Layout.Signs.{ending_sign, inner_of, label_of, sign_of, spot_of}
 use Rattle.am_lab_chart.specs.Bars.{bar, frame_caption, frame_part, has_room, lane_bars, level_width, received, records, stretch}
 use Rattle.am_lab_chart.specs.Ways.{arc, arrow, cross, is_own, straight}
 use Rattle.am_lab_chart.specs.Rows.{fate_of, fate_x, inner, inner_text, label, label_at, label_text, labelled, line_number, line_text, link, link_line, mark}

@@ -10,7 +10,7 @@ use Rattle.am_lab_xml.specs.Trees.{Content}
 use Rattle.am_lab_xml.specs.Trees.{Content as Contents}
 use Rattle.am_lab_xml.proofs.Formed.{document}
 use Rattle.am_lab_xml.proofs.Found.{texts_are_found}
-use Rattle.am_lab_layout.specs.Layout.{height, left_edge, width}
+use Rattle.am_lab_picture.specs.Layout.Layout.{height, left_edge, width}
 use Rattle.am_lab_chart.specs.Drawing.{drawing, inside, size_class, svg_attributes, svg_of}
 use Rattle.am_lab_chart.proofs.Titled.{Has, both, break}
 use Rattle.am_lab_chart.proofs.Quiet.{drawing_has}

@@ -6,8 +6,8 @@ use Rattle.am_lab_picture.specs.declared.data.Residency.{Residency}
 use Rattle.am_lab_picture.specs.declared.data.Span.{Span}
 use Rattle.am_lab_xml.specs.Trees.{Content, each}
 use Rattle.am_lab_xml.specs.Trees.{Content as Contents}
-use Rattle.am_lab_layout.specs.Layout.{has_text, left_of, y_of}
-use Rattle.am_lab_layout.specs.Words.{place_class, frame_of}
+use Rattle.am_lab_picture.specs.Layout.Layout.{has_text, left_of, y_of}
+use Rattle.am_lab_picture.specs.Layout.Words.{place_class, frame_of}
 use Rattle.am_lab_chart.specs.Captions.{caption, number, word}
 
 -- a box of this class and width, from one line of the report to another

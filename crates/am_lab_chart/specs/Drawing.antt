@@ -7,7 +7,7 @@ use Rattle.am_lab_xml.specs.Trees.{Content as Contents}
 use Rattle.am_lab_chart.specs.declared.tables.TheConstants.{STYLE}
 use Rattle.am_lab_chart.specs.Tables.{bar_meanings, call_meanings, call_shapes, ending_shapes, event_meanings, event_shapes, fate_meanings, fate_shapes, heads}
 use Rattle.am_lab_chart.specs.Tables.{legend_shapes, told_meanings, way_meanings}
-use Rattle.am_lab_layout.specs.Layout.{has_text, height, left_edge, width}
+use Rattle.am_lab_picture.specs.Layout.Layout.{has_text, height, left_edge, width}
 use Rattle.am_lab_chart.specs.Captions.{number, word}
 use Rattle.am_lab_chart.specs.Legends.{arrow_head, meaning, shape, style}
 use Rattle.am_lab_chart.specs.Lanes.{end_head, nodes}

@@ -6,7 +6,7 @@ use Rattle.am_office_text.specs.Words.{tag}
 use Rattle.am_lab_picture.specs.Data.{LaneLists, PictureLists}
 use Rattle.am_lab_xml.specs.Trees.{Content}
 use Rattle.am_lab_xml.specs.Trees.{Content as Contents}
-use Rattle.am_lab_layout.specs.Layout.{band_left, band_width, bottom, has_interfaces, top, x_of_end, x_of_interface}
+use Rattle.am_lab_picture.specs.Layout.Layout.{band_left, band_width, bottom, has_interfaces, top, x_of_end, x_of_interface}
 use Rattle.am_lab_chart.specs.Captions.{caption, number, word}
 
 -- a text in the middle of a head

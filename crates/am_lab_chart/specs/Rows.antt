@@ -9,15 +9,15 @@ use Rattle.am_lab_picture.specs.declared.data.Named.{Named}
 use Rattle.am_lab_picture.specs.declared.data.Row.{Row}
 use Rattle.am_lab_xml.specs.Trees.{Content}
 use Rattle.am_lab_xml.specs.Trees.{Content as Contents}
-use Rattle.am_lab_layout.specs.declared.signs.Spot.{Spot}
-use Rattle.am_lab_layout.specs.declared.signs.Spot.TheVariants as Spots
-use Rattle.am_lab_layout.specs.declared.signs.Ending.{Ending}
-use Rattle.am_lab_layout.specs.declared.signs.Ending.TheVariants as Endings
-use Rattle.am_lab_layout.specs.declared.signs.Link.{Link}
-use Rattle.am_lab_layout.specs.Layout.{has_text, x_of_end, x_of_interface, y_of}
-use Rattle.am_lab_layout.specs.Words.{class_of, fate_class, fate_sign, head_of}
+use Rattle.am_lab_picture.specs.declared.layout.signs.Spot.{Spot}
+use Rattle.am_lab_picture.specs.declared.layout.signs.Spot.TheVariants as Spots
+use Rattle.am_lab_picture.specs.declared.layout.signs.Ending.{Ending}
+use Rattle.am_lab_picture.specs.declared.layout.signs.Ending.TheVariants as Endings
+use Rattle.am_lab_picture.specs.declared.layout.signs.Link.{Link}
+use Rattle.am_lab_picture.specs.Layout.Layout.{has_text, x_of_end, x_of_interface, y_of}
+use Rattle.am_lab_picture.specs.Layout.Words.{class_of, fate_class, fate_sign, head_of}
 use Rattle.am_lab_chart.specs.Captions.{caption, number, sign_at, word}
-use Rattle.am_lab_layout.specs.Signs.{ending_dashes, ending_sign, inner_of, label_of, link_of, sign_of, spot_of}
+use Rattle.am_lab_picture.specs.Layout.Signs.{ending_dashes, ending_sign, inner_of, label_of, link_of, sign_of, spot_of}
 
 -- ---- at the left
 

@@ -8,8 +8,8 @@ use Rattle.am_lab_picture.specs.declared.data.Cross.{Cross}
 use Rattle.am_lab_xml.specs.Attributes.{place}
 use Rattle.am_lab_xml.specs.Trees.{Content}
 use Rattle.am_lab_xml.specs.Trees.{Content as Contents}
-use Rattle.am_lab_layout.specs.Layout.{x_of_interface, y_of}
-use Rattle.am_lab_layout.specs.Words.{class_of, head_of, opacity, packet_dashes}
+use Rattle.am_lab_picture.specs.Layout.Layout.{x_of_interface, y_of}
+use Rattle.am_lab_picture.specs.Layout.Words.{class_of, head_of, opacity, packet_dashes}
 use Rattle.am_lab_chart.specs.Captions.{number, word}
 
 -- where a packet is emitted and where it is received

@@ -2,11 +2,11 @@
 
 ghost use Rattle.std.specs.Prelude.{◌≡◌, ◌≤◌, ◌++◌, OnOk, length};
 ghost use Rattle.am_lab_chart.specs.Bars as bars;
-ghost use Rattle.am_lab_layout.specs.Layout.{IsDrawable};
+ghost use Rattle.am_lab_picture.specs.Layout.Layout.{IsDrawable};
 ghost use Rattle.am_lab_xml.specs.Trees.{each, printed};
 
 use crate::captions::put_caption;
-use am_lab_layout::{frame_of, has_text, left_of, place_class, y_of};
+use am_lab_picture::layout::{frame_of, has_text, left_of, place_class, y_of};
 use am_lab_picture::{Lane, Picture, Residency, Span};
 use am_lab_xml::Attribute::{Number, Word};
 use am_lab_xml::put_empty;

@@ -2,8 +2,8 @@
 
 ghost use Rattle.std.specs.Prelude.{◌≡◌, ◌≤◌, ◌++◌, IfOk, OnOk, codes, map};
 ghost use Rattle.am_lab_chart.specs.Drawing as drawing;
-ghost use Rattle.am_lab_layout.specs.Layout as layout;
-ghost use Rattle.am_lab_layout.specs.Layout.{IsDrawable};
+ghost use Rattle.am_lab_picture.specs.Layout.Layout as layout;
+ghost use Rattle.am_lab_picture.specs.Layout.Layout.{IsDrawable};
 ghost use Rattle.am_check_lines.specs.Grammar as lines;
 ghost use Rattle.am_lab_xml.specs.Grammar.{IsDocument};
 ghost use Rattle.am_lab_xml.specs.Reading.{texts_in};
@@ -19,7 +19,7 @@ use crate::tables::{
     put_legend_shapes, put_told_meanings, put_way_meanings,
 };
 use crate::ways::{put_arrows, put_crosses};
-use am_lab_layout::{bottom, has_text, width};
+use am_lab_picture::layout::{bottom, has_text, width};
 use am_lab_picture::{Picture, Row};
 use am_lab_xml::Attribute::{Number, Path, Word};
 use am_lab_xml::{Point, put_break, put_close, put_empty, put_open, put_text};
@@ -229,7 +229,7 @@ fn longest(alloc: Global, rows: &[Row]) -> Result<usize, NoMemory>
     Ok(longest)
 }
 
-#[tactic(auto, unfolding(am_lab_layout::specs::Layout::left_edge))]
+#[tactic(auto, unfolding(am_lab_picture::specs::Layout::Layout::left_edge))]
 fn left_edge(alloc: Global, picture: &Picture) -> Result<u64, NoMemory>
     ensures exact { IfOk result (λ left. left ≡ layout.left_edge picture.now) }
     ensures low { IfOk result (λ left. left ≤ 4000) }

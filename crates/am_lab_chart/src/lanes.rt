@@ -2,12 +2,14 @@
 
 ghost use Rattle.std.specs.Prelude.{◌≡◌, ◌≤◌, ◌++◌, OnOk};
 ghost use Rattle.am_lab_chart.specs.Lanes as lanes;
-ghost use Rattle.am_lab_layout.specs.Layout.{IsDrawable};
+ghost use Rattle.am_lab_picture.specs.Layout.Layout.{IsDrawable};
 ghost use Rattle.am_lab_xml.specs.Trees.{each, printed};
 ghost use Rattle.am_office_text.specs.Pieces.{word_of};
 
 use crate::captions::put_caption;
-use am_lab_layout::{TOP, band_left, band_width, bottom, has_interfaces, x_of_end, x_of_interface};
+use am_lab_picture::layout::{
+    TOP, band_left, band_width, bottom, has_interfaces, x_of_end, x_of_interface,
+};
 use am_lab_picture::{Lane, Picture};
 use am_lab_xml::Attribute::{Number, Word};
 use am_lab_xml::put_empty;

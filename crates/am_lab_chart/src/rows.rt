@@ -2,13 +2,13 @@
 
 ghost use Rattle.std.specs.Prelude.{◌≡◌, ◌≤◌, ◌<◌, ◌+◌, ◌^◌, ◌++◌, IfOk, OnOk, length, option_map};
 ghost use Rattle.am_check_lines.specs.Grammar as lines;
-ghost use Rattle.am_lab_layout.specs.Layout.{IsDrawable};
+ghost use Rattle.am_lab_picture.specs.Layout.Layout.{IsDrawable};
 ghost use Rattle.am_lab_chart.specs.Rows as rows;
 ghost use Rattle.am_lab_xml.specs.Trees.{numbered, printed};
 ghost use Rattle.am_office_text.specs.Pieces.{word_of};
 
 use crate::captions::{put_caption, put_sign};
-use am_lab_layout::{
+use am_lab_picture::layout::{
     Ending, Link, Spot, class_of, ending_dashes, ending_sign, fate_class, fate_sign, has_text,
     head_of, inner_of, label_of, link_of, sign_of, spot_of, x_of_end, x_of_interface, y_of,
 };

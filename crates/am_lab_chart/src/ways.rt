@@ -1,12 +1,12 @@
 //! The ways of packets.
 
 ghost use Rattle.std.specs.Prelude.{◌≡◌, ◌≤◌, ◌++◌, OnOk};
-ghost use Rattle.am_lab_layout.specs.Layout.{IsDrawable};
+ghost use Rattle.am_lab_picture.specs.Layout.Layout.{IsDrawable};
 ghost use Rattle.am_lab_chart.specs.Ways as ways;
 ghost use Rattle.am_lab_xml.specs.Trees.{each, printed};
 ghost use Rattle.am_model.specs.Packets.{from_of, receiver_of};
 
-use am_lab_layout::{class_of, head_of, opacity, packet_dashes, x_of_interface, y_of};
+use am_lab_picture::layout::{class_of, head_of, opacity, packet_dashes, x_of_interface, y_of};
 use am_lab_picture::{Arrow, Cross, Picture};
 use am_lab_xml::Attribute::{Number, Path, Word};
 use am_lab_xml::{Point, put_empty};

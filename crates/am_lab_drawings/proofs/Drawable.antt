@@ -11,7 +11,7 @@ use Rattle.am_scenario_types.specs.Lists.{ScenarioLists}
 use Rattle.am_scenario_types.specs.declared.parts.EndLine.{EndLine}
 use Rattle.am_scenario_types.specs.declared.parts.Form.{Form}
 use Rattle.am_scenario_types.specs.declared.parts.Network.{Network}
-use Rattle.am_lab_layout.specs.Layout.{IsDrawable}
+use Rattle.am_lab_picture.specs.Layout.Layout.{IsDrawable}
 use Rattle.am_lab_picture.specs.Data.{PictureLists}
 use Rattle.am_lab_picture.specs.declared.data.Lines.{Lines}
 use Rattle.am_lab_reasons.proofs.Reported.{reported}

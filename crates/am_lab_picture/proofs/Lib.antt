@@ -3,3 +3,5 @@ pub mod Finding
 pub mod Spread
 pub mod Laning
 pub mod Shown
+mod Counts
+mod Downwards

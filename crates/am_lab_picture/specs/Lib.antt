@@ -8,3 +8,4 @@ pub mod Residencies
 pub mod Spans
 pub mod Lanes
 pub mod Laws
+pub mod Layout

@@ -10,6 +10,7 @@ mod fates;
 mod journals;
 mod lanes;
 mod laws;
+pub mod layout;
 mod packets;
 mod residencies;
 mod spans;

@@ -1,5 +1,5 @@
 use Rattle.std.proofs.Common.{◌≡◌, max, drop}
-use Rattle.am_lab_layout.specs.Layout as layout
+use Rattle.am_lab_picture.specs.Layout.Layout as layout
 use Rattle.am_lab_chart.proofs.drawing.longest.Given as goal
 
 abbrev pub invariant-loop-row : goal.invariant-loop-row

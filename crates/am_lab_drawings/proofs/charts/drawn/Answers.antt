@@ -18,5 +18,5 @@ chart-requires c =
 pub returns-in-Err : goal.returns-in-Err
 returns-in-Err c =
     refusal_shown c.in-Err.fault c.refused.result (Shows c.args.form c.args.bytes.now c.args.part)
-    (λ (o : Output) (shown : Result PictureLists PictureFault). answer_in o ≡ drawing_of shown) c.in-Err.ensures c.refused.ensures.told
+    (λ (o : Output) (shown : Result PictureLists PictureFault). answer_in o ≡ drawing_of c.args.bytes.now shown) c.in-Err.ensures c.refused.ensures.told
     c.refused.ensures.starved

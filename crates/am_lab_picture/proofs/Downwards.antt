@@ -3,7 +3,7 @@ use Rattle.std.proofs.Common.{◌≡◌, ℕ, ◌+◌, ◌-◌, ◌*◌, ◌<◌
 use Rattle.std.specs.Prelude.{nat_lt}
 use borrow.Author.Tests.{lt-ltb, le-ltb, ltb-true, ltb-false}
 use Rattle.am_lab_picture.specs.Data.{PictureLists}
-use Rattle.am_lab_layout.specs.Layout.{bottom, half_row, has_text, height_of, top, y_of}
+use Rattle.am_lab_picture.specs.Layout.Layout.{bottom, half_row, has_text, height_of, top, y_of}
 
 row_y : (p : PictureLists) (line : ℕ) → p.first ≤ line → line < p.first + length p.rows → y_of p line ≡ top + height_of p (line - p.first) + half_row p
 unfolding y_of

@@ -1,7 +1,7 @@
 //! How the rows of a picture lie.
 
 ghost use Rattle.std.specs.Prelude.{ℕ, ◌+◌, ◌<◌, ◌≤◌, length};
-ghost use Rattle.am_lab_layout.specs.Layout.{bottom, top, y_of};
+ghost use Rattle.am_lab_picture.specs.Layout.Layout.{bottom, top, y_of};
 ghost use Rattle.am_lab_picture.specs.Data.{PictureLists};
 
 /// Later lines of a picture lie below earlier ones, and all of them between its upper and its lower edge.

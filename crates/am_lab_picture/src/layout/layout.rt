@@ -1,10 +1,10 @@
 //! Where things lie in the picture, in pixels.
 
 ghost use Rattle.std.specs.Prelude.{◌≡◌, ◌≤◌, length};
-ghost use Rattle.am_lab_layout.specs.Layout as layout;
-ghost use Rattle.am_lab_layout.specs.Layout.{IsDrawable};
+ghost use Rattle.am_lab_picture.specs.Layout.Layout as layout;
+ghost use Rattle.am_lab_picture.specs.Layout.Layout.{IsDrawable};
 
-use am_lab_picture::{Lane, Picture};
+use crate::{Lane, Picture};
 use am_names::{EndpointId, NodeId};
 use am_scenario_types::Network;
 
@@ -38,7 +38,7 @@ fn half_row(picture: &Picture) -> u64
 }
 
 /// The lower edge of the last row.
-#[tactic(auto, unfolding(crate::specs::Layout::bottom))]
+#[tactic(auto, unfolding(crate::specs::Layout::Layout::bottom))]
 pub fn bottom(picture: &Picture) -> u64
     requires { IsDrawable picture.now }
     ensures exact { result ≡ layout.bottom picture.now }
@@ -48,7 +48,7 @@ pub fn bottom(picture: &Picture) -> u64
 }
 
 /// The y of a line of the report.
-#[tactic(auto, unfolding(crate::specs::Layout::y_of))]
+#[tactic(auto, unfolding(crate::specs::Layout::Layout::y_of))]
 pub fn y_of(picture: &Picture, line: u32) -> u64
     requires { IsDrawable picture.now }
     ensures exact { result ≡ layout.y_of picture.now line }
@@ -141,7 +141,7 @@ fn gaps(picture: &Picture, node: u8) -> u64
 }
 
 /// The left edge of a node's band.
-#[tactic(auto, unfolding(crate::specs::Layout::band_left))]
+#[tactic(auto, unfolding(crate::specs::Layout::Layout::band_left))]
 pub fn band_left(picture: &Picture, left: u64, node: u8) -> u64
     requires drawable { IsDrawable picture.now }
     requires narrow { left ≤ 4000 }
@@ -152,7 +152,7 @@ pub fn band_left(picture: &Picture, left: u64, node: u8) -> u64
 }
 
 /// The width of a node's band.
-#[tactic(auto, unfolding(crate::specs::Layout::band_width))]
+#[tactic(auto, unfolding(crate::specs::Layout::Layout::band_width))]
 pub fn band_width(picture: &Picture, node: u8) -> u64
     requires { IsDrawable picture.now }
     ensures exact { result ≡ layout.band_width picture.now node }
@@ -172,7 +172,7 @@ fn skipped(picture: &Picture, node: u8) -> u64
     }
 }
 
-#[tactic(auto, unfolding(crate::specs::Layout::left_at))]
+#[tactic(auto, unfolding(crate::specs::Layout::Layout::left_at))]
 fn left_at(picture: &Picture, left: u64, node: u8, end: u8) -> u64
     requires drawable { IsDrawable picture.now }
     requires narrow { left ≤ 4000 }
@@ -217,7 +217,7 @@ fn ends_passed(picture: &Picture, node: u8) -> u64
 }
 
 /// The middle of an interface's lane.
-#[tactic(auto, unfolding(crate::specs::Layout::x_of_interface))]
+#[tactic(auto, unfolding(crate::specs::Layout::Layout::x_of_interface))]
 pub fn x_of_interface(picture: &Picture, left: u64, node: NodeId) -> u64
     requires drawable { IsDrawable picture.now }
     requires narrow { left ≤ 4000 }

@@ -1,5 +1,5 @@
-use Rattle.am_lab_layout.proofs.Downwards.{below, inside}
-use Rattle.am_lab_layout.proofs.laws.rows_go_down.Goals as goal
+use Rattle.am_lab_picture.proofs.Downwards.{below, inside}
+use Rattle.am_lab_picture.proofs.layout.laws.rows_go_down.Goals as goal
 
 pub returns-clause-below : goal.returns-clause-below
 returns-clause-below c = below

@@ -1,7 +1,7 @@
 //! What an entry is drawn as.
 
 ghost use Rattle.std.specs.Prelude.{◌≡◌, option_map};
-ghost use Rattle.am_lab_layout.specs.Signs as signs;
+ghost use Rattle.am_lab_picture.specs.Layout.Signs as signs;
 ghost use Rattle.am_office_text.specs.Pieces.{word_of};
 
 use am_names::{EndpointId, Message, NodeId};
@@ -105,7 +105,7 @@ pub fn link_of(event: Event, outcome: Outcome) -> Option<Link>
 }
 
 /// How the line to an endpoint is dashed.
-#[tactic(auto, unfolding(crate::specs::Signs::ending_dashes))]
+#[tactic(auto, unfolding(crate::specs::Layout::Signs::ending_dashes))]
 pub fn ending_dashes(ending: Ending) -> &'static str
     ensures { result.now ≡ signs.ending_dashes ending }
 {
@@ -121,7 +121,7 @@ pub fn ending_dashes(ending: Ending) -> &'static str
 }
 
 /// The sign at the end of the line to an endpoint.
-#[tactic(auto, unfolding(crate::specs::Signs::ending_sign))]
+#[tactic(auto, unfolding(crate::specs::Layout::Signs::ending_sign))]
 pub fn ending_sign(ending: Ending) -> &'static str
     ensures { result.now ≡ signs.ending_sign ending }
 {
@@ -146,7 +146,7 @@ fn call_sign(call: Call) -> &'static str
     }
 }
 
-#[tactic(auto, unfolding(crate::specs::Signs::done_sign))]
+#[tactic(auto, unfolding(crate::specs::Layout::Signs::done_sign))]
 fn done_sign(event: Event) -> &'static str
     ensures { result.now ≡ signs.done_sign event }
 {
@@ -165,7 +165,7 @@ fn done_sign(event: Event) -> &'static str
     }
 }
 
-#[tactic(auto, unfolding(crate::specs::Signs::received_sign))]
+#[tactic(auto, unfolding(crate::specs::Layout::Signs::received_sign))]
 fn received_sign(received: Received) -> &'static str
     ensures { result.now ≡ signs.received_sign received }
 {
@@ -182,7 +182,7 @@ fn received_sign(received: Received) -> &'static str
 }
 
 /// The sign of an entry.
-#[tactic(auto, unfolding(crate::specs::Signs::sign_of))]
+#[tactic(auto, unfolding(crate::specs::Layout::Signs::sign_of))]
 pub fn sign_of(event: Event, outcome: Outcome) -> &'static str
     ensures { result.now ≡ signs.sign_of event outcome }
 {
@@ -228,7 +228,7 @@ pub fn inner_of(outcome: Outcome) -> Option<Piece>
     }
 }
 
-#[tactic(auto, unfolding(crate::specs::Signs::refusal_text))]
+#[tactic(auto, unfolding(crate::specs::Layout::Signs::refusal_text))]
 fn refusal_text(refusal: Refusal) -> &'static str
     ensures { result.now ≡ signs.refusal_text refusal }
 {

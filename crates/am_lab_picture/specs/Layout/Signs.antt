@@ -14,11 +14,11 @@ use Rattle.am_office_entries.specs.declared.Received.TheVariants as Got
 use Rattle.am_office_entries.specs.declared.Refusal.{Refusal}
 use Rattle.am_office_entries.specs.declared.Refusal.TheVariants as Refusals
 use Rattle.am_office_text.specs.Words as texts
-use Rattle.am_lab_layout.specs.declared.signs.Spot.{Spot}
-use Rattle.am_lab_layout.specs.declared.signs.Spot.TheVariants as Spots
-use Rattle.am_lab_layout.specs.declared.signs.Ending.{Ending}
-use Rattle.am_lab_layout.specs.declared.signs.Ending.TheVariants as Endings
-use Rattle.am_lab_layout.specs.declared.signs.Link.{Link}
+use Rattle.am_lab_picture.specs.declared.layout.signs.Spot.{Spot}
+use Rattle.am_lab_picture.specs.declared.layout.signs.Spot.TheVariants as Spots
+use Rattle.am_lab_picture.specs.declared.layout.signs.Ending.{Ending}
+use Rattle.am_lab_picture.specs.declared.layout.signs.Ending.TheVariants as Endings
+use Rattle.am_lab_picture.specs.declared.layout.signs.Link.{Link}
 
 abbrev pub Word : Type 0
 Word = List ℕ

@@ -1,14 +1,14 @@
 //! The classes that the style sheet gives colours to, and how lines are dashed.
 
 ghost use Rattle.std.specs.Prelude.{◌≡◌};
-ghost use Rattle.am_lab_layout.specs.Words as words;
+ghost use Rattle.am_lab_picture.specs.Layout.Words as words;
 
-use am_lab_picture::{Named, Residency};
+use crate::{Named, Residency};
 use am_names::{MsgKind, Packet};
 use am_office_entries::Fate;
 
 /// The class of a fate.
-#[tactic(auto, unfolding(crate::specs::Words::fate_class))]
+#[tactic(auto, unfolding(crate::specs::Layout::Words::fate_class))]
 pub fn fate_class(fate: Option<Fate>) -> &'static str
     ensures { result.now ≡ words.fate_class fate }
 {
@@ -33,7 +33,7 @@ pub fn class_of(about: Option<Named>) -> &'static str
 }
 
 /// The sign of a fate.
-#[tactic(auto, unfolding(crate::specs::Words::fate_sign))]
+#[tactic(auto, unfolding(crate::specs::Layout::Words::fate_sign))]
 pub fn fate_sign(fate: Option<Fate>) -> &'static str
     ensures { result.now ≡ words.fate_sign fate }
 {
@@ -47,7 +47,7 @@ pub fn fate_sign(fate: Option<Fate>) -> &'static str
     }
 }
 
-#[tactic(auto, unfolding(crate::specs::Words::fate_head))]
+#[tactic(auto, unfolding(crate::specs::Layout::Words::fate_head))]
 fn fate_head(fate: Option<Fate>) -> &'static str
     ensures { result.now ≡ words.fate_head fate }
 {
@@ -71,7 +71,7 @@ pub fn head_of(about: Option<Named>) -> &'static str
     }
 }
 
-#[tactic(auto, unfolding(crate::specs::Words::kind_dashes))]
+#[tactic(auto, unfolding(crate::specs::Layout::Words::kind_dashes))]
 fn kind_dashes(kind: MsgKind) -> &'static str
     ensures { result.now ≡ words.kind_dashes kind }
 {
@@ -93,7 +93,7 @@ pub fn packet_dashes(packet: Packet) -> &'static str
 }
 
 /// How full a line is drawn that counts, or that doesn't.
-#[tactic(auto, unfolding(crate::specs::Words::opacity))]
+#[tactic(auto, unfolding(crate::specs::Layout::Words::opacity))]
 pub fn opacity(counts: bool) -> &'static str
     ensures { result.now ≡ words.opacity counts }
 {
@@ -101,7 +101,7 @@ pub fn opacity(counts: bool) -> &'static str
 }
 
 /// The class of a place.
-#[tactic(auto, unfolding(crate::specs::Words::place_class))]
+#[tactic(auto, unfolding(crate::specs::Layout::Words::place_class))]
 pub fn place_class(place: Residency) -> &'static str
     ensures { result.now ≡ words.place_class place }
 {
