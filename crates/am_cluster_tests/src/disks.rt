@@ -1,4 +1,4 @@
-// Runs in which a node's disk fails: in a turn of its driver, and in the drain.
+//! Runs in which a node's disk fails: in a turn of its driver, and in the drain.
 
 use crate::gates::{Hold, HoldingGate};
 use crate::phases::hold;

@@ -1,5 +1,6 @@
-// Runs whose cluster is taken apart into its nodes and put together behind a phase of so many turns. That its drain then makes just what it would have made
-// anyway, the clause says.
+//! Runs whose cluster is taken apart into its nodes and put together behind a phase of so many turns. That its drain then makes just what it would have made
+//! anyway, the clause says.
+
 use crate::parted::drained_in_parts;
 use crate::workloads::workload;
 use am_cluster::OpenGate;

@@ -1,5 +1,6 @@
-// Runs whose threads, interfaces and drivers work at the same time. That two of them do, and that they make entries at all,
-// no clause says.
+//! Runs whose threads, interfaces and drivers work at the same time. That two of them do, and that they make entries at all,
+//! no clause says.
+
 use crate::disks::begins;
 use crate::gates::{Hold, HoldingGate, Moment, StepGate};
 use crate::workloads::workload;

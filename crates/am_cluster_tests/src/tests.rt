@@ -1,4 +1,5 @@
-// The drain of a fresh cluster. A made scenario has 1,744 calls, shared evenly by eight threads.
+//! The drain of a fresh cluster. A made scenario has 1,744 calls, shared evenly by eight threads.
+
 use crate::workloads::no_calls;
 use am_cluster::{OpenGate, alone, drain, run};
 use am_laws_runs::empty_is_good_phase;

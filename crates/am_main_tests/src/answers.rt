@@ -1,22 +1,18 @@
-use crate::tables::Device;
+//! What a command answers over a source and a sink, and whether that is sound.
+
+use crate::tables::{Device, Ending};
 use am_io::{MemorySink, MemorySource, Sink, Source};
 use am_main::am2;
 use std::alloc::{AllocError, Global};
 use std::thread::Threads;
 
-/// Moves all bytes in one call, and never fails.
-pub const SOUND: Device = Device {
-    most: 65_536,
-    fails: 0,
-};
-
-/// What a command answered: its status, what the sink holds, and how many reads and writes failed.
+/// What a command answered: its status, how many reads and writes failed, and the sink that took its text.
 #[derive(Drop)]
 pub struct Answer {
     pub status: u8,
-    pub printed: Vec<u8>,
     pub read_faults: u64,
     pub write_faults: u64,
+    pub sink: MemorySink,
 }
 
 /// The words of a line, by its spaces.
@@ -28,14 +24,18 @@ pub fn words_of(alloc: Global, line: &str) -> Result<Vec<String>, AllocError> {
     Ok(words)
 }
 
+/// Texts, one behind another.
+pub fn joined(alloc: Global, parts: &[&str]) -> Result<String, AllocError> {
+    let mut text = String::new(alloc);
+    for part in parts {
+        text.push_str(part)?;
+    }
+    Ok(text)
+}
+
 /// The failing calls of a device: its own and the next one, so that a second try would be counted.
 fn fails_of(alloc: Global, device: Device) -> Result<Vec<u32>, AllocError> {
-    let mut fails = Vec::new(alloc);
-    if device.fails > 0 {
-        fails.push(device.fails)?;
-        fails.push(device.fails.saturating_add(1))?;
-    }
-    Ok(fails)
+    Vec::from_slice(alloc, &[device.fails, device.fails.saturating_add(1)])
 }
 
 /// What the program answers to these words and this text, over a source and a sink that may fail.
@@ -54,19 +54,10 @@ pub fn answer_of<R: Threads + Sync>(
     let status = am2(rt, alloc, &words, &mut from, &mut to);
     Ok(Answer {
         status: status.number,
-        printed: Vec::from_slice(alloc, to.bytes())?,
         read_faults: from.faults(),
         write_faults: to.faults(),
+        sink: to,
     })
-}
-
-/// How a command ends: its status, what the sink holds, and how many reads and writes failed.
-#[derive(Clone, Copy)]
-pub struct Ending<'a> {
-    pub status: u8,
-    pub printed: &'a str,
-    pub read_faults: u64,
-    pub write_faults: u64,
 }
 
 /// That of a command which met no fault.
@@ -91,7 +82,7 @@ pub fn ends_so<R: Threads + Sync>(
     let answer = answer_of(rt, alloc, line, text, devices.0, devices.1)?;
     Ok(
         answer.status == wanted.status
-            && answer.printed.as_slice() == wanted.printed.as_bytes()
+            && answer.sink.bytes() == wanted.printed.as_bytes()
             && answer.read_faults == wanted.read_faults
             && answer.write_faults == wanted.write_faults,
     )

@@ -1,7 +1,16 @@
-// Sources and sinks that fail.
-use crate::answers::{Ending, SOUND, answer_of, ends_so, sound};
-use crate::tables::{CASES, COMMANDS, Device, PATH, PATH_REPORT};
+//! Sources and sinks that fail.
+
+use crate::answers::{answer_of, ends_so, sound};
+use crate::tables::{CASES, COMMANDS, Device, Ending, PATH, PATH_REPORT, SOUND};
 use std::test::Fail;
+
+/// A read failed.
+const READ_FAULT: Ending = Ending {
+    status: 4,
+    printed: "read fault\n",
+    read_faults: 1,
+    write_faults: 0,
+};
 
 /// The text has 9 parts of at most 16 bytes, and the tenth read finds its end.
 #[test]
@@ -9,12 +18,7 @@ fn each_read_fails_in_turn(rt: HostRuntime) -> Result<(), Fail> {
     for fails in 1..13u32 {
         let source = Device { most: 16, fails };
         let wanted = if fails <= 10 {
-            Ending {
-                status: 4,
-                printed: "read fault\n",
-                read_faults: 1,
-                write_faults: 0,
-            }
+            READ_FAULT
         } else {
             sound(0, PATH_REPORT)
         };
@@ -27,14 +31,17 @@ fn each_read_fails_in_turn(rt: HostRuntime) -> Result<(), Fail> {
 #[test]
 fn a_read_fails_or_a_write_fails(rt: HostRuntime) -> Result<(), Fail> {
     for case in CASES {
-        let wanted = Ending {
-            status: case.status,
-            printed: case.printed,
-            read_faults: u64::from(case.source.fails > 0),
-            write_faults: u64::from(case.sink.fails > 0),
-        };
         let devices = (case.source, case.sink);
-        assert!(rt; ends_so(&rt, rt.alloc(), "step", PATH.as_bytes(), devices, wanted)?);
+        assert!(rt;
+            ends_so(
+                &rt,
+                rt.alloc(),
+                case.line,
+                case.text.as_bytes(),
+                devices,
+                case.ending
+            )?
+        );
     }
     Ok(())
 }
@@ -47,77 +54,30 @@ fn each_write_fails_in_turn(rt: HostRuntime) -> Result<(), Fail> {
         let sink = Device { most: 16, fails };
         let answer = answer_of(&rt, rt.alloc(), "step", PATH.as_bytes(), SOUND, sink)?;
         assert!(rt; answer.status == 5);
-        assert!(rt; answer.printed.len() == number.saturating_mul(16));
-        assert!(rt; PATH_REPORT.as_bytes().starts_with(&answer.printed));
+        assert!(rt; answer.sink.bytes().len() == number.saturating_mul(16));
+        assert!(rt; PATH_REPORT.as_bytes().starts_with(answer.sink.bytes()));
         assert!(rt; !part.is_empty());
         assert!(rt; answer.write_faults == 1);
     }
     Ok(())
 }
 
+/// Each command that reads a text ends at a read fault, at a write fault, and else well.
 #[test]
-fn each_command_ends_at_a_read_fault(rt: HostRuntime) -> Result<(), Fail> {
-    let devices = (Device { most: 16, fails: 2 }, SOUND);
-    let wanted = Ending {
-        status: 4,
-        printed: "read fault\n",
-        read_faults: 1,
-        write_faults: 0,
-    };
-    for (line, text, _) in COMMANDS {
-        assert!(rt; ends_so(&rt, rt.alloc(), line, text.as_bytes(), devices, wanted)?);
-    }
-    Ok(())
-}
-
-#[test]
-fn each_command_ends_at_a_write_fault(rt: HostRuntime) -> Result<(), Fail> {
-    let devices = (SOUND, Device { most: 16, fails: 2 });
+fn each_command_meets_faults(rt: HostRuntime) -> Result<(), Fail> {
+    let fails = Device { most: 16, fails: 2 };
     for (line, text, front) in COMMANDS {
-        let wanted = cut_at(front);
-        assert!(rt; ends_so(&rt, rt.alloc(), line, text.as_bytes(), devices, wanted)?);
-    }
-    Ok(())
-}
-
-#[test]
-fn each_command_ends_well(rt: HostRuntime) -> Result<(), Fail> {
-    for (line, text, _) in COMMANDS {
-        let answer = answer_of(&rt, rt.alloc(), line, text.as_bytes(), SOUND, SOUND)?;
+        let bytes = text.as_bytes();
+        let cut = Ending {
+            status: 5,
+            printed: front,
+            read_faults: 0,
+            write_faults: 1,
+        };
+        assert!(rt; ends_so(&rt, rt.alloc(), line, bytes, (fails, SOUND), READ_FAULT)?);
+        assert!(rt; ends_so(&rt, rt.alloc(), line, bytes, (SOUND, fails), cut)?);
+        let answer = answer_of(&rt, rt.alloc(), line, bytes, SOUND, SOUND)?;
         assert!(rt; answer.status == 0);
-    }
-    Ok(())
-}
-
-/// A write failed, in front of which this was taken.
-fn cut_at(front: &str) -> Ending {
-    Ending {
-        status: 5,
-        printed: front,
-        read_faults: 0,
-        write_faults: 1,
-    }
-}
-
-/// It reads nothing, so no read of it fails.
-#[test]
-fn a_made_run_ends_at_a_failed_write(rt: HostRuntime) -> Result<(), Fail> {
-    let devices = (Device { most: 16, fails: 1 }, Device { most: 16, fails: 2 });
-    let wanted = cut_at("am2 make 1\ncalls");
-    assert!(rt; ends_so(&rt, rt.alloc(), "make 1", b"", devices, wanted)?);
-    Ok(())
-}
-
-/// A line that fails to be written leaves its front: the usage line, and what is told of a fault.
-#[test]
-fn no_text_is_tried_twice(rt: HostRuntime) -> Result<(), Fail> {
-    let devices = (SOUND, Device { most: 8, fails: 2 });
-    for (line, text, front) in [
-        ("stop", PATH, "usage: a"),
-        ("step", "am2 1\nspeed 3\n", "refused "),
-    ] {
-        let wanted = cut_at(front);
-        assert!(rt; ends_so(&rt, rt.alloc(), line, text.as_bytes(), devices, wanted)?);
     }
     Ok(())
 }

@@ -27,49 +27,147 @@ pub const PATH_REPORT: &str = "am2 report 1\n\
     fate 1.1 empty pending\n\
     totals ran 1 returned 0 unknown 0 unknown-but-ran 0 pending 1\n";
 
-/// How a source or a sink fails: how many bytes a call moves, and the call that fails, counted from 1. None fails where it is 0.
+/// The parts of a text, the status and the parts of what is printed.
+pub type Row = (&'static [&'static str], u8, &'static [&'static str]);
+
+/// How a source or a sink fails: how many bytes a call moves, and the call that fails, counted from 1, or `NEVER`.
 #[derive(Clone, Copy)]
 pub struct Device {
     pub most: usize,
     pub fails: u32,
 }
 
-/// What the way of one message comes to over a source and a sink.
+pub const NEVER: u32 = u32::MAX;
+
+/// Moves all bytes in one call, and never fails.
+pub const SOUND: Device = Device {
+    most: 65_536,
+    fails: NEVER,
+};
+
+/// Moves a few bytes in a call, and never fails.
+pub const SLOW: Device = Device {
+    most: 7,
+    fails: NEVER,
+};
+
+/// How a command ends: its status, what the sink holds, and how many reads and writes failed.
 #[derive(Clone, Copy)]
-pub struct Case {
-    pub source: Device,
-    pub sink: Device,
+pub struct Ending<'a> {
     pub status: u8,
-    pub printed: &'static str,
+    pub printed: &'a str,
+    pub read_faults: u64,
+    pub write_faults: u64,
 }
 
-pub const CASES: [Case; 4] = [
+/// What a command comes to over a source and a sink.
+#[derive(Clone, Copy)]
+pub struct Case {
+    pub line: &'static str,
+    pub text: &'static str,
+    pub source: Device,
+    pub sink: Device,
+    pub ending: Ending<'static>,
+}
+
+pub static CASES: [Case; 7] = [
     Case {
-        source: Device { most: 1, fails: 0 },
-        sink: Device { most: 1, fails: 0 },
-        status: 0,
-        printed: PATH_REPORT,
+        line: "step",
+        text: PATH,
+        source: Device {
+            most: 1,
+            fails: NEVER,
+        },
+        sink: Device {
+            most: 1,
+            fails: NEVER,
+        },
+        ending: Ending {
+            status: 0,
+            printed: PATH_REPORT,
+            read_faults: 0,
+            write_faults: 0,
+        },
     },
     Case {
+        line: "step",
+        text: PATH,
         source: Device { most: 1, fails: 5 },
         sink: Device {
             most: 512,
-            fails: 0,
+            fails: NEVER,
         },
-        status: 4,
-        printed: "read fault\n",
+        ending: Ending {
+            status: 4,
+            printed: "read fault\n",
+            read_faults: 1,
+            write_faults: 0,
+        },
     },
     Case {
+        line: "step",
+        text: PATH,
         source: Device { most: 1, fails: 1 },
         sink: Device { most: 1, fails: 1 },
-        status: 5,
-        printed: "",
+        ending: Ending {
+            status: 5,
+            printed: "",
+            read_faults: 1,
+            write_faults: 1,
+        },
     },
     Case {
-        source: Device { most: 7, fails: 0 },
+        line: "step",
+        text: PATH,
+        source: Device {
+            most: 7,
+            fails: NEVER,
+        },
         sink: Device { most: 16, fails: 2 },
-        status: 5,
-        printed: "am2 report 1\nent",
+        ending: Ending {
+            status: 5,
+            printed: "am2 report 1\nent",
+            read_faults: 0,
+            write_faults: 1,
+        },
+    },
+    // It reads nothing, so no read of it fails.
+    Case {
+        line: "make 1",
+        text: "",
+        source: Device { most: 16, fails: 1 },
+        sink: Device { most: 16, fails: 2 },
+        ending: Ending {
+            status: 5,
+            printed: "am2 make 1\ncalls",
+            read_faults: 0,
+            write_faults: 1,
+        },
+    },
+    // A line that fails to be written leaves its front, and is not tried again: the usage line, and what is told of a fault.
+    Case {
+        line: "stop",
+        text: PATH,
+        source: SOUND,
+        sink: Device { most: 8, fails: 2 },
+        ending: Ending {
+            status: 5,
+            printed: "usage: a",
+            read_faults: 0,
+            write_faults: 1,
+        },
+    },
+    Case {
+        line: "step",
+        text: "am2 1\nspeed 3\n",
+        source: SOUND,
+        sink: Device { most: 8, fails: 2 },
+        ending: Ending {
+            status: 5,
+            printed: "refused ",
+            read_faults: 0,
+            write_faults: 1,
+        },
     },
 ];
 

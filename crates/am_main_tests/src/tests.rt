@@ -1,84 +1,44 @@
-use crate::answers::{SOUND, answer_of, ends_so, sound, words_of};
-use crate::scripts;
-use crate::tables::{Device, PATH, PATH_REPORT};
-use crate::texts::{CHECKS, CONDITIONS, COUNTS, DIRECT, FAULTS, IDLE, NO_FORMS, PACKET, RUNS, Row};
-use am_main::{Command, StepFault, command_of, step_text};
+//! Each command over texts, and over sources and sinks that fail.
+
+use crate::answers::{answer_of, ends_so, joined, sound, words_of};
+use crate::direct::DIRECT;
+use crate::packet::PACKET;
+use crate::scripts::{self, RUNS};
+use crate::tables::{Device, PATH, PATH_REPORT, Row, SLOW, SOUND};
+use crate::texts::{CHECKS, CONDITIONS, COUNTS, FAULTS, FORMS, IDLE, NO_FORMS};
+use am_main::{StepFault, command_of, step_text};
 use am_office_entries::Condition;
 use std::alloc::{AllocError, Global};
 use std::test::Fail;
 use std::thread::Threads;
 
-/// Moves a few bytes in a call, and never fails.
-const SLOW: Device = Device { most: 7, fails: 0 };
-
-fn joined(alloc: Global, front: &str, rest: &str) -> Result<Vec<u8>, AllocError> {
-    let mut text = Vec::from_slice(alloc, front.as_bytes())?;
-    text.extend_from_slice(rest.as_bytes())?;
-    Ok(text)
-}
-
-/// The number of the first row that is answered otherwise, if there is one.
-fn first_other<R: Threads + Sync>(
+/// Whether the rows of a table are answered as they say, each under this command.
+fn are_answered<R: Threads + Sync>(
     rt: &R,
     alloc: Global,
     line: &str,
     rows: &[Row],
-) -> Result<Option<usize>, AllocError> {
-    for (i, (scenario, rest, status, printed)) in rows.iter().enumerate() {
-        let text = joined(alloc, scenario, rest)?;
-        if !ends_so(
-            rt,
-            alloc,
-            line,
-            &text,
-            (SLOW, SLOW),
-            sound(*status, printed),
-        )? {
-            return Ok(Some(i));
+) -> Result<bool, AllocError> {
+    for (parts, status, printed) in rows {
+        let text = joined(alloc, parts)?;
+        let wanted = joined(alloc, printed)?;
+        let ending = sound(*status, wanted.as_str());
+        if !ends_so(rt, alloc, line, text.as_bytes(), (SLOW, SLOW), ending)? {
+            return Ok(false);
         }
     }
-    Ok(None)
+    Ok(true)
 }
 
 #[test]
-fn each_direct_script_is_answered(rt: HostRuntime) -> Result<(), Fail> {
-    let other = first_other(&rt, rt.alloc(), "step", DIRECT.as_slice())?;
-    assert!(rt; other.is_none());
-    Ok(())
-}
-
-#[test]
-fn each_fault_of_a_text_is_named(rt: HostRuntime) -> Result<(), Fail> {
-    let other = first_other(&rt, rt.alloc(), "step", FAULTS.as_slice())?;
-    assert!(rt; other.is_none());
-    Ok(())
-}
-
-#[test]
-fn each_packet_script_is_answered(rt: HostRuntime) -> Result<(), Fail> {
-    let other = first_other(&rt, rt.alloc(), "step", PACKET.as_slice())?;
-    assert!(rt; other.is_none());
-    Ok(())
-}
-
-#[test]
-fn each_condition_is_told(rt: HostRuntime) -> Result<(), Fail> {
-    let other = first_other(&rt, rt.alloc(), "step", CONDITIONS.as_slice())?;
-    assert!(rt; other.is_none());
-    Ok(())
-}
-
-#[test]
-fn each_run_is_answered(rt: HostRuntime) -> Result<(), Fail> {
-    let other = first_other(&rt, rt.alloc(), "run", RUNS.as_slice())?;
-    assert!(rt; other.is_none());
-    Ok(())
-}
-
-#[test]
-fn each_report_is_checked(rt: HostRuntime) -> Result<(), Fail> {
-    let other = first_other(&rt, rt.alloc(), "check step", CHECKS.as_slice())?;
-    assert!(rt; other.is_none());
+fn each_text_is_answered(rt: HostRuntime) -> Result<(), Fail> {
+    let alloc = rt.alloc();
+    assert!(rt; are_answered(&rt, alloc, "step", DIRECT.as_slice())?);
+    assert!(rt; are_answered(&rt, alloc, "step", FAULTS.as_slice())?);
+    assert!(rt; are_answered(&rt, alloc, "step", PACKET.as_slice())?);
+    assert!(rt; are_answered(&rt, alloc, "step", CONDITIONS.as_slice())?);
+    assert!(rt; are_answered(&rt, alloc, "run", RUNS.as_slice())?);
+    assert!(rt; are_answered(&rt, alloc, "check step", CHECKS.as_slice())?);
     Ok(())
 }
 
@@ -87,7 +47,7 @@ fn words_are_counted(rt: HostRuntime) -> Result<(), Fail> {
     for (line, text, status, printed) in COUNTS {
         let answer = answer_of(&rt, rt.alloc(), line, text, SLOW, SLOW)?;
         assert!(rt; answer.status == status);
-        assert!(rt; answer.printed.as_slice() == printed);
+        assert!(rt; answer.sink.bytes() == printed);
     }
     Ok(())
 }
@@ -122,52 +82,61 @@ fn is_report(told: &Result<Vec<u8>, StepFault>) -> bool {
     }
 }
 
-fn is_idle(told: &Result<Vec<u8>, StepFault>) -> bool {
-    match told {
-        Err(StepFault::NotEnabled { line, condition }) => {
-            *line == 5 && *condition == Condition::NoMessage
-        }
-        _other => false,
-    }
-}
-
 #[test]
 fn a_text_without_a_sink(rt: HostRuntime) {
     let path = step_text(rt.alloc(), PATH.as_bytes());
     assert!(rt; is_report(&path));
     let idle = step_text(rt.alloc(), IDLE.as_bytes());
-    assert!(rt; is_idle(&idle));
+    assert!(rt;
+        matches!(
+            &idle,
+            Err(StepFault::NotEnabled {
+                line: 5,
+                condition: Condition::NoMessage
+            })
+        )
+    );
 }
 
 // The scenario with each of 4096 packets late by 16 emissions.
-fn late_text(alloc: Global) -> Result<Vec<u8>, AllocError> {
-    let mut text = Vec::from_slice(alloc, scripts::HEAD.as_bytes())?;
+fn late_text(alloc: Global) -> Result<String, AllocError> {
+    let mut text = joined(alloc, &[scripts::VERSION, scripts::CLIENTS])?;
     for number in 1..4097u32 {
-        text.extend_from_slice(b"plan 0 1 ")?;
-        text.extend_from_slice(number.to_string(alloc)?.as_bytes())?;
-        text.extend_from_slice(b" late 16\n")?;
+        let number = number.to_string(alloc)?;
+        let line = joined(alloc, &["plan 0 1 ", number.as_str(), " late 16\n"])?;
+        text.push_str(line.as_str())?;
     }
-    text.extend_from_slice(scripts::SCRIPTS.as_bytes())?;
+    text.push_str(scripts::ASKING)?;
+    text.push_str(scripts::POLLS)?;
     Ok(text)
 }
 
 #[test]
 fn is_unknown_where_each_packet_is_late(rt: HostRuntime) -> Result<(), Fail> {
     let text = late_text(rt.alloc())?;
-    let answer = answer_of(&rt, rt.alloc(), "run", text.as_slice(), SOUND, SOUND)?;
+    let answer = answer_of(&rt, rt.alloc(), "run", text.as_bytes(), SOUND, SOUND)?;
     assert!(rt; answer.status == 0);
     let totals = b"\ntotals ran 0 returned 0 unknown 2 unknown-but-ran 0 pending 0\n";
-    assert!(rt; answer.printed.ends_with(totals));
+    assert!(rt; answer.sink.bytes().ends_with(totals));
     Ok(())
 }
 
 // The scenario of two clients and a server with so many turns.
-fn turns_text(alloc: Global, turns: u32) -> Result<Vec<u8>, AllocError> {
-    let mut text = Vec::from_slice(alloc, b"am2 1\nturns ")?;
-    text.extend_from_slice(turns.to_string(alloc)?.as_bytes())?;
-    text.extend_from_slice(scripts::BEHIND_TURNS.as_bytes())?;
-    text.extend_from_slice(scripts::SCRIPTS.as_bytes())?;
-    Ok(text)
+fn turns_text(alloc: Global, turns: u32) -> Result<String, AllocError> {
+    let turns = turns.to_string(alloc)?;
+    joined(
+        alloc,
+        &[
+            scripts::VERSION,
+            "turns ",
+            turns.as_str(),
+            "\n",
+            scripts::CLIENTS,
+            scripts::ONE_LOST,
+            scripts::ASKING,
+            scripts::POLLS,
+        ],
+    )
 }
 
 #[test]
@@ -175,9 +144,9 @@ fn comes_to_its_end_with_turns(rt: HostRuntime) -> Result<(), Fail> {
     for count in 0..34u32 {
         let turns = if count == 33 { 1000 } else { count };
         let text = turns_text(rt.alloc(), turns)?;
-        let answer = answer_of(&rt, rt.alloc(), "run", text.as_slice(), SOUND, SOUND)?;
+        let answer = answer_of(&rt, rt.alloc(), "run", text.as_bytes(), SOUND, SOUND)?;
         assert!(rt; answer.status == 0);
-        assert!(rt; answer.printed.ends_with(b" pending 0\n"));
+        assert!(rt; answer.sink.bytes().ends_with(b" pending 0\n"));
     }
     Ok(())
 }
@@ -192,8 +161,8 @@ fn makes_a_run_of_a_number(rt: HostRuntime) -> Result<(), Fail> {
     ] {
         let answer = answer_of(&rt, rt.alloc(), line, b"", unread, SOUND)?;
         assert!(rt; answer.status == 0);
-        assert!(rt; answer.printed.starts_with(front.as_bytes()));
-        assert!(rt; answer.printed.ends_with(b" pending 0\n"));
+        assert!(rt; answer.sink.bytes().starts_with(front.as_bytes()));
+        assert!(rt; answer.sink.bytes().ends_with(b" pending 0\n"));
     }
     Ok(())
 }
@@ -211,32 +180,10 @@ fn other_words_are_usage(rt: HostRuntime) -> Result<(), Fail> {
 
 #[test]
 fn forms_of_words(rt: HostRuntime) -> Result<(), Fail> {
-    let alloc = rt.alloc();
-    let none: Vec<String> = Vec::new(alloc);
+    let none: Vec<String> = Vec::new(rt.alloc());
     assert!(rt; command_of(&none).is_none());
-    assert!(rt; matches!(command_of(&words_of(alloc, "step")?), Some(Command::Step)));
-    assert!(rt; matches!(command_of(&words_of(alloc, "run")?), Some(Command::Run)));
-    assert!(rt;
-        matches!(
-            command_of(&words_of(alloc, "make 0")?),
-            Some(Command::Make(0))
-        )
-    );
-    let most = words_of(alloc, "make 18446744073709551615")?;
-    assert!(rt;
-        matches!(
-            command_of(&most),
-            Some(Command::Make(18_446_744_073_709_551_615))
-        )
-    );
-    assert!(rt;
-        matches!(
-            command_of(&words_of(alloc, "count 8 10000")?),
-            Some(Command::Count {
-                nodes: 8,
-                turns: 10_000
-            })
-        )
-    );
+    for (line, command) in FORMS {
+        assert!(rt; command_of(&words_of(rt.alloc(), line)?) == Some(command));
+    }
     Ok(())
 }

@@ -1,4 +1,5 @@
-// What no clause says: that a block is made where there is memory, that it is freed, and that it goes to another thread.
+//! What no clause says: that a block is made where there is memory, that it is freed, and that it goes to another thread.
+
 ghost use Rattle.std.specs.Prelude.{◌≡◌, ◌<◌};
 
 use am_block::{Block, List, Slot};

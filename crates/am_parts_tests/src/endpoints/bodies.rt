@@ -1,4 +1,5 @@
-// What handlers give, and what no clause says: that a body is made where there is memory.
+//! What handlers give, and what no clause says: that a body is made where there is memory.
+
 use am_endpoint_body::{Body, EndSettings};
 use am_handlers::{HandlerFault, Handlers, Ran, run};
 use am_model::Queued;

@@ -1,4 +1,5 @@
-// A walk of one endpoint, with values that were worked out by hand.
+//! A walk of one endpoint, with values that were worked out by hand.
+
 ghost use Rattle.am_model.specs.Allowed.{are_numbers_in_range};
 ghost use Rattle.std.specs.Prelude.{◌≡◌, true};
 

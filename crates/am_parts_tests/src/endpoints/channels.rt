@@ -1,4 +1,5 @@
-// The part of a channel in worked journals, as calls on its sending and its receiving end.
+//! The part of a channel in worked journals, as calls on its sending and its receiving end.
+
 ghost use Rattle.std.specs.Prelude.{◌≡◌};
 
 use am_channel::{Arrival, Bound, RecvEnd, SendEnd, Sent, Settled, Slot, TimedOut};

@@ -1,4 +1,5 @@
-// The driver's choice among a few endpoints, two frames and so many to keep on the host.
+//! The driver's choice among a few endpoints, two frames and so many to keep on the host.
+
 use am_driver_moves::choice::{EndView, Move, View, next_move};
 use am_names::EndpointId;
 use am_office_entries::Place;

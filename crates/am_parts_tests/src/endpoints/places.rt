@@ -1,5 +1,6 @@
-// A walk of one endpoint of the packet network through all its places. Each step is made where it may be, and its entry
-// is given to the endpoint as an interface or a driver would.
+//! A walk of one endpoint of the packet network through all its places. Each step is made where it may be, and its entry
+//! is given to the endpoint as an interface or a driver would.
+
 ghost use Rattle.am_endpoint.specs.View.{state_after};
 ghost use Rattle.std.specs.Prelude.{◌≡◌, IfSome};
 

@@ -1,4 +1,5 @@
-// Worked rows of a translation table, by hand.
+//! Worked rows of a translation table, by hand.
+
 ghost use Rattle.am_names.specs.Names.{same_serial};
 ghost use Rattle.am_translate.specs.Tables.{is_known};
 ghost use Rattle.std.specs.Prelude.{◌≡◌};

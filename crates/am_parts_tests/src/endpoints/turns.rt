@@ -1,5 +1,6 @@
-// Walks of one endpoint of each network through the calls of an interface: binds, arrivals, settlings and carries.
-// What comes of each step is worked out by hand from the rules of the machine.
+//! Walks of one endpoint of each network through the calls of an interface: binds, arrivals, settlings and carries.
+//! What comes of each step is worked out by hand from the rules of the machine.
+
 ghost use Rattle.am_model.specs.Allowed.{tries_used_up};
 ghost use Rattle.am_names.specs.Names.{is_well_formed};
 ghost use Rattle.am_model.specs.Endpoint.{is_direct};

@@ -1,4 +1,5 @@
-// A node of two with its one endpoint, and the calls on them, each made only where it may be.
+//! A node of two with its one endpoint, and the calls on them, each made only where it may be.
+
 ghost use Rattle.am_endpoint.specs.View.{state_after};
 ghost use Rattle.am_iface.specs.View.{FitsInterface, IsChannelOf, own};
 ghost use Rattle.am_iface.specs.With.{IsHomeKnown, KnowsHome};

@@ -1,4 +1,5 @@
-// Both nodes, and journals of them as rows of steps with the outcome and the packet of each.
+//! Both nodes, and journals of them as rows of steps with the outcome and the packet of each.
+
 ghost use Rattle.std.specs.Prelude.{◌≤◌};
 
 use crate::interfaces::nodes::{LATE, Node};

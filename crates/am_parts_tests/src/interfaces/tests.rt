@@ -1,5 +1,6 @@
-// Each entry and each packet is written out by hand, from the rules.
-use crate::interfaces::pairs::{Line, Pair, Side, Step, node_of, other};
+//! Each entry and each packet is written out by hand, from the rules.
+
+use crate::interfaces::pairs::{Line, Pair, Side, Step};
 use am_names::{
     AnswerPacket, Cause, EndpointId, Message, MsgKind, NodeId, Packet, Parcel, Serial, Tag,
     Verdict, Why, Words,
@@ -31,12 +32,15 @@ const REQUEST: Message = Message {
     about: None,
 };
 
+/// The serial of what the poll that runs the request sends.
+const ANSWERED: Serial = Serial {
+    source: EndpointId(1),
+    count: 1,
+};
+
 /// What the poll that runs the request sends.
 const EMPTY: Message = Message {
-    serial: Serial {
-        source: EndpointId(1),
-        count: 1,
-    },
+    serial: ANSWERED,
     kind: MsgKind::Empty,
     dest: EndpointId(0),
     tag: Tag(5),
@@ -54,53 +58,61 @@ const EMPTY: Message = Message {
 const BAD_TAG: Verdict = Verdict::Refused(Cause::BadTag);
 
 /// The request goes out with this attempt and this number.
-fn sent(attempt: u8, number: u32) -> Outcome {
-    Outcome::Sent {
-        message: REQUEST,
-        peer: NodeId(1),
-        channel: 0,
-        seq: 1,
-        attempt,
-        number,
-    }
+macro_rules! sent {
+    ($attempt:expr, $number:expr) => {
+        Outcome::Sent {
+            message: REQUEST,
+            peer: NodeId(1),
+            channel: 0,
+            seq: 1,
+            attempt: $attempt,
+            number: $number,
+        }
+    };
 }
 
 /// A packet of the first sequence with this attempt came.
-fn received(attempt: u8, came: Received) -> Outcome {
-    Outcome::Received {
-        channel: 0,
-        seq: 1,
-        attempt,
-        result: came,
-    }
+macro_rules! received {
+    ($attempt:expr, $came:expr) => {
+        Outcome::Received {
+            channel: 0,
+            seq: 1,
+            attempt: $attempt,
+            result: $came,
+        }
+    };
 }
 
-/// The parcel that an entry with this stamp sends from one side to the other.
-fn parcel(from: Side, message: Message, attempt: u8, number: u32, stamp: u64) -> Option<Packet> {
-    Some(Packet::Parcel(Parcel {
-        from: node_of(from),
-        to: node_of(other(from)),
-        channel: 0,
-        seq: 1,
-        attempt,
-        number,
-        stamp,
-        message,
-    }))
+/// The parcel that an entry with this stamp sends from one node to the other.
+macro_rules! parcel {
+    ($from:expr, $to:expr, $message:expr, $attempt:expr, $number:expr, $stamp:expr) => {
+        Some(Packet::Parcel(Parcel {
+            from: NodeId($from),
+            to: NodeId($to),
+            channel: 0,
+            seq: 1,
+            attempt: $attempt,
+            number: $number,
+            stamp: $stamp,
+            message: $message,
+        }))
+    };
 }
 
-/// The answer that an entry with this stamp sends from one side to the other.
-fn answer(from: Side, verdict: Verdict, attempt: u8, number: u32, stamp: u64) -> Option<Packet> {
-    Some(Packet::Answer(AnswerPacket {
-        from: node_of(from),
-        to: node_of(other(from)),
-        channel: 0,
-        seq: 1,
-        attempt,
-        number,
-        stamp,
-        verdict,
-    }))
+/// The answer that an entry with this stamp sends from one node to the other.
+macro_rules! answer {
+    ($from:expr, $to:expr, $verdict:expr, $attempt:expr, $number:expr, $stamp:expr) => {
+        Some(Packet::Answer(AnswerPacket {
+            from: NodeId($from),
+            to: NodeId($to),
+            channel: 0,
+            seq: 1,
+            attempt: $attempt,
+            number: $number,
+            stamp: $stamp,
+            verdict: $verdict,
+        }))
+    };
 }
 
 const SET_HANDLER: Step = Step::Call(Call::SetHandler {
@@ -132,21 +144,250 @@ const RAN: Outcome = Outcome::Ran {
 };
 
 /// The first six lines of each journal: the request is sent.
-fn layout() -> [Line; 6] {
-    [
-        (Side::Far, SET_HANDLER, Outcome::Done, None),
-        (Side::Near, MAP, Outcome::Done, None),
-        (Side::Near, Step::Load, Outcome::Silent, None),
-        (Side::Far, Step::Load, Outcome::Silent, None),
-        (Side::Near, ASK, Outcome::Requested(REQUEST), None),
-        (
-            Side::Near,
-            Step::Bind,
-            sent(0, 1),
-            parcel(Side::Near, REQUEST, 0, 1, 6),
-        ),
-    ]
+static SENT: [Line; 6] = [
+    (Side::Far, SET_HANDLER, Outcome::Done, None),
+    (Side::Near, MAP, Outcome::Done, None),
+    (Side::Near, Step::Load, Outcome::Silent, None),
+    (Side::Far, Step::Load, Outcome::Silent, None),
+    (Side::Near, ASK, Outcome::Requested(REQUEST), None),
+    (
+        Side::Near,
+        Step::Bind,
+        sent!(0, 1),
+        parcel!(0, 1, REQUEST, 0, 1, 6),
+    ),
+];
+
+/// A journal behind these six lines.
+#[derive(Clone, Copy)]
+struct Journal {
+    /// How often a message is tried, and the tag of the endpoint to which the request goes.
+    tries: u8,
+    far_tag: Tag,
+    lines: &'static [Line],
+    /// The entries of both interfaces, and the packets to the other side.
+    entries: [usize; 2],
+    packets: [u32; 2],
 }
+
+const ACCEPTED: Received = Received::Accepted {
+    message: REQUEST,
+    answer: 1,
+};
+
+const ACCEPTED_AS_SECOND: Received = Received::Accepted {
+    message: REQUEST,
+    answer: 2,
+};
+
+const ACCEPTED_AGAIN: Received = Received::Again {
+    serial: FIRST,
+    verdict: Verdict::Accepted,
+    answer: 2,
+};
+
+const REFUSED: Received = Received::Refused {
+    message: REQUEST,
+    cause: Cause::BadTag,
+    answer: 1,
+};
+
+const RETURNED: Received = Received::Returned {
+    serial: FIRST,
+    cause: Cause::BadTag,
+};
+
+const NO_REQUEST: Verdict = Verdict::Refused(Cause::NoRequest);
+
+const EMPTY_SENT: Outcome = Outcome::Sent {
+    message: EMPTY,
+    peer: NodeId(0),
+    channel: 0,
+    seq: 1,
+    attempt: 0,
+    number: 2,
+};
+
+const EMPTY_REFUSED: Received = Received::Refused {
+    message: EMPTY,
+    cause: Cause::NoRequest,
+    answer: 3,
+};
+
+const EMPTY_RETURNED: Received = Received::Returned {
+    serial: ANSWERED,
+    cause: Cause::NoRequest,
+};
+
+/// A lost acknowledgement, a delayed earlier try, an old refusal, and a request that is unknown but ran.
+static JOURNALS: [Journal; 4] = [
+    Journal {
+        tries: 3,
+        far_tag: Tag(7),
+        lines: &[
+            (
+                Side::Far,
+                Step::Receive(1),
+                received!(0, ACCEPTED),
+                answer!(1, 0, Verdict::Accepted, 0, 1, 7),
+            ),
+            (
+                Side::Near,
+                Step::Expire,
+                sent!(1, 2),
+                parcel!(0, 1, REQUEST, 1, 2, 8),
+            ),
+            (
+                Side::Far,
+                Step::Receive(2),
+                received!(1, ACCEPTED_AGAIN),
+                answer!(1, 0, Verdict::Accepted, 1, 2, 9),
+            ),
+            (
+                Side::Near,
+                Step::Receive(2),
+                received!(1, Received::Delivered(FIRST)),
+                None,
+            ),
+            (Side::Far, POLL, RAN, None),
+            (
+                Side::Near,
+                Step::Receive(1),
+                received!(0, Received::Nothing),
+                None,
+            ),
+        ],
+        entries: [4, 2],
+        packets: [2, 2],
+    },
+    Journal {
+        tries: 3,
+        far_tag: Tag(8),
+        lines: &[
+            (
+                Side::Near,
+                Step::Expire,
+                sent!(1, 2),
+                parcel!(0, 1, REQUEST, 1, 2, 7),
+            ),
+            (
+                Side::Far,
+                Step::Receive(2),
+                received!(1, REFUSED),
+                answer!(1, 0, BAD_TAG, 1, 1, 8),
+            ),
+            (Side::Near, Step::Receive(1), received!(1, RETURNED), None),
+            (Side::Far, TAG_SEVEN, Outcome::Done, None),
+            (
+                Side::Far,
+                Step::Receive(1),
+                received!(0, Received::Stale),
+                None,
+            ),
+            (Side::Far, POLL, Outcome::Empty, None),
+            (
+                Side::Near,
+                POLL,
+                Outcome::Zero {
+                    serial: FIRST,
+                    why: Why::Refused(Cause::BadTag),
+                },
+                None,
+            ),
+        ],
+        entries: [3, 2],
+        packets: [2, 1],
+    },
+    Journal {
+        tries: 3,
+        far_tag: Tag(8),
+        lines: &[
+            (
+                Side::Far,
+                Step::Receive(1),
+                received!(0, REFUSED),
+                answer!(1, 0, BAD_TAG, 0, 1, 7),
+            ),
+            (Side::Far, TAG_SEVEN, Outcome::Done, None),
+            (
+                Side::Near,
+                Step::Expire,
+                sent!(1, 2),
+                parcel!(0, 1, REQUEST, 1, 2, 9),
+            ),
+            (
+                Side::Far,
+                Step::Receive(2),
+                received!(1, ACCEPTED_AS_SECOND),
+                answer!(1, 0, Verdict::Accepted, 1, 2, 10),
+            ),
+            (
+                Side::Near,
+                Step::Receive(1),
+                received!(0, Received::Nothing),
+                None,
+            ),
+            (Side::Far, POLL, RAN, None),
+            (
+                Side::Near,
+                Step::Receive(2),
+                received!(1, Received::Delivered(FIRST)),
+                None,
+            ),
+        ],
+        entries: [4, 2],
+        packets: [2, 2],
+    },
+    Journal {
+        tries: 2,
+        far_tag: Tag(7),
+        lines: &[
+            (
+                Side::Near,
+                Step::Expire,
+                sent!(1, 2),
+                parcel!(0, 1, REQUEST, 1, 2, 7),
+            ),
+            (Side::Near, Step::Expire, Outcome::Unknown(FIRST), None),
+            (
+                Side::Near,
+                POLL,
+                Outcome::Zero {
+                    serial: FIRST,
+                    why: Why::Unknown,
+                },
+                None,
+            ),
+            (
+                Side::Far,
+                Step::Receive(2),
+                received!(1, ACCEPTED),
+                answer!(1, 0, Verdict::Accepted, 1, 1, 10),
+            ),
+            (Side::Far, POLL, RAN, None),
+            (
+                Side::Far,
+                Step::Bind,
+                EMPTY_SENT,
+                parcel!(1, 0, EMPTY, 0, 2, 12),
+            ),
+            (
+                Side::Near,
+                Step::Receive(2),
+                received!(0, EMPTY_REFUSED),
+                answer!(0, 1, NO_REQUEST, 0, 3, 13),
+            ),
+            (
+                Side::Far,
+                Step::Receive(3),
+                received!(0, EMPTY_RETURNED),
+                None,
+            ),
+        ],
+        entries: [4, 3],
+        packets: [3, 2],
+    },
+];
 
 /// The entries of both interfaces, the packets to the other side, and what is bound at the near one and by which attempt. The
 /// slot of what is bound is the one that the message has in flight.
@@ -167,216 +408,15 @@ fn assert_counts(
 }
 
 #[test]
-fn a_lost_acknowledgement(rt: HostRuntime) -> Result<(), Fail> {
-    let mut pair = Pair::new(rt.alloc(), 3, Tag(7))?;
-    pair.walk(&rt, layout().as_slice());
-    assert_counts(&rt, &pair, [1, 0], [1, 0], Some((REQUEST, 0)));
-    let accepted = Received::Accepted {
-        message: REQUEST,
-        answer: 1,
-    };
-    let again = Received::Again {
-        serial: FIRST,
-        verdict: Verdict::Accepted,
-        answer: 2,
-    };
-    let lines = [
-        (
-            Side::Far,
-            Step::Receive(1),
-            received(0, accepted),
-            answer(Side::Far, Verdict::Accepted, 0, 1, 7),
-        ),
-        (
-            Side::Near,
-            Step::Expire,
-            sent(1, 2),
-            parcel(Side::Near, REQUEST, 1, 2, 8),
-        ),
-        (
-            Side::Far,
-            Step::Receive(2),
-            received(1, again),
-            answer(Side::Far, Verdict::Accepted, 1, 2, 9),
-        ),
-        (
-            Side::Near,
-            Step::Receive(2),
-            received(1, Received::Delivered(FIRST)),
-            None,
-        ),
-        (Side::Far, POLL, RAN, None),
-        (
-            Side::Near,
-            Step::Receive(1),
-            received(0, Received::Nothing),
-            None,
-        ),
-    ];
-    pair.walk(&rt, lines.as_slice());
-    assert_counts(&rt, &pair, [4, 2], [2, 2], None);
-    Ok(())
-}
-
-#[test]
-fn a_delayed_earlier_try(rt: HostRuntime) -> Result<(), Fail> {
-    let mut pair = Pair::new(rt.alloc(), 3, Tag(8))?;
-    pair.walk(&rt, layout().as_slice());
-    let refused = Received::Refused {
-        message: REQUEST,
-        cause: Cause::BadTag,
-        answer: 1,
-    };
-    let returned = Received::Returned {
-        serial: FIRST,
-        cause: Cause::BadTag,
-    };
-    let zero = Outcome::Zero {
-        serial: FIRST,
-        why: Why::Refused(Cause::BadTag),
-    };
-    let lines = [
-        (
-            Side::Near,
-            Step::Expire,
-            sent(1, 2),
-            parcel(Side::Near, REQUEST, 1, 2, 7),
-        ),
-        (
-            Side::Far,
-            Step::Receive(2),
-            received(1, refused),
-            answer(Side::Far, BAD_TAG, 1, 1, 8),
-        ),
-        (Side::Near, Step::Receive(1), received(1, returned), None),
-        (Side::Far, TAG_SEVEN, Outcome::Done, None),
-        (
-            Side::Far,
-            Step::Receive(1),
-            received(0, Received::Stale),
-            None,
-        ),
-        (Side::Far, POLL, Outcome::Empty, None),
-        (Side::Near, POLL, zero, None),
-    ];
-    pair.walk(&rt, lines.as_slice());
-    assert_counts(&rt, &pair, [3, 2], [2, 1], None);
-    Ok(())
-}
-
-#[test]
-fn an_old_refusal(rt: HostRuntime) -> Result<(), Fail> {
-    let mut pair = Pair::new(rt.alloc(), 3, Tag(8))?;
-    pair.walk(&rt, layout().as_slice());
-    let refused = Received::Refused {
-        message: REQUEST,
-        cause: Cause::BadTag,
-        answer: 1,
-    };
-    let accepted = Received::Accepted {
-        message: REQUEST,
-        answer: 2,
-    };
-    let lines = [
-        (
-            Side::Far,
-            Step::Receive(1),
-            received(0, refused),
-            answer(Side::Far, BAD_TAG, 0, 1, 7),
-        ),
-        (Side::Far, TAG_SEVEN, Outcome::Done, None),
-        (
-            Side::Near,
-            Step::Expire,
-            sent(1, 2),
-            parcel(Side::Near, REQUEST, 1, 2, 9),
-        ),
-        (
-            Side::Far,
-            Step::Receive(2),
-            received(1, accepted),
-            answer(Side::Far, Verdict::Accepted, 1, 2, 10),
-        ),
-        (
-            Side::Near,
-            Step::Receive(1),
-            received(0, Received::Nothing),
-            None,
-        ),
-        (Side::Far, POLL, RAN, None),
-        (
-            Side::Near,
-            Step::Receive(2),
-            received(1, Received::Delivered(FIRST)),
-            None,
-        ),
-    ];
-    pair.walk(&rt, lines.as_slice());
-    assert_counts(&rt, &pair, [4, 2], [2, 2], None);
-    Ok(())
-}
-
-#[test]
-fn unknown_but_ran(rt: HostRuntime) -> Result<(), Fail> {
-    let mut pair = Pair::new(rt.alloc(), 2, Tag(7))?;
-    pair.walk(&rt, layout().as_slice());
-    let zero = Outcome::Zero {
-        serial: FIRST,
-        why: Why::Unknown,
-    };
-    let accepted = Received::Accepted {
-        message: REQUEST,
-        answer: 1,
-    };
-    let bound = Outcome::Sent {
-        message: EMPTY,
-        peer: NodeId(0),
-        channel: 0,
-        seq: 1,
-        attempt: 0,
-        number: 2,
-    };
-    let refused = Received::Refused {
-        message: EMPTY,
-        cause: Cause::NoRequest,
-        answer: 3,
-    };
-    let no_request = Verdict::Refused(Cause::NoRequest);
-    let returned = Received::Returned {
-        serial: EMPTY.serial,
-        cause: Cause::NoRequest,
-    };
-    let lines = [
-        (
-            Side::Near,
-            Step::Expire,
-            sent(1, 2),
-            parcel(Side::Near, REQUEST, 1, 2, 7),
-        ),
-        (Side::Near, Step::Expire, Outcome::Unknown(FIRST), None),
-        (Side::Near, POLL, zero, None),
-        (
-            Side::Far,
-            Step::Receive(2),
-            received(1, accepted),
-            answer(Side::Far, Verdict::Accepted, 1, 1, 10),
-        ),
-        (Side::Far, POLL, RAN, None),
-        (
-            Side::Far,
-            Step::Bind,
-            bound,
-            parcel(Side::Far, EMPTY, 0, 2, 12),
-        ),
-        (
-            Side::Near,
-            Step::Receive(2),
-            received(0, refused),
-            answer(Side::Near, no_request, 0, 3, 13),
-        ),
-        (Side::Far, Step::Receive(3), received(0, returned), None),
-    ];
-    pair.walk(&rt, lines.as_slice());
-    assert_counts(&rt, &pair, [4, 3], [3, 2], None);
+fn each_journal_is_made(rt: HostRuntime) -> Result<(), Fail> {
+    for journal in JOURNALS {
+        let tries = journal.tries;
+        assert!(rt; 2 <= tries && tries <= 16);
+        let mut pair = Pair::new(rt.alloc(), tries, journal.far_tag)?;
+        pair.walk(&rt, SENT.as_slice());
+        assert_counts(&rt, &pair, [1, 0], [1, 0], Some((REQUEST, 0)));
+        pair.walk(&rt, journal.lines);
+        assert_counts(&rt, &pair, journal.entries, journal.packets, None);
+    }
     Ok(())
 }

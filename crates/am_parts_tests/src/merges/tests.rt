@@ -1,3 +1,5 @@
+//! Logs with entries of one stamp.
+
 use am_machine_journal::merge::join;
 use am_names::{EndpointId, Message, MsgKind, NodeId, Serial, Tag, Words};
 use am_office_entries::{Actor, Call, Entry, Event, Outcome, Received};

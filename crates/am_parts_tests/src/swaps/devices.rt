@@ -1,4 +1,5 @@
-// A disk whose listed calls fail.
+//! A disk whose listed calls fail.
+
 use crate::swaps::page_log::PageLog;
 use am_names::EndpointId;
 use am_swap_device::{Look, MemorySwap, Swap, SwapFault};

@@ -1,3 +1,5 @@
+//! Images of bodies, byte by byte.
+
 use crate::swaps::images::{ASKING, FRESH, MAPPING, RECORD, REQUEST, SETTINGS, SOURCE};
 use am_endpoint_body::Body;
 use am_names::{EndpointId, Tag};

@@ -1,3 +1,5 @@
+//! Reports of runs, right and wrong, and the first fault of each.
+
 use am_check::CheckStop::{self, Fault, LogFull};
 use am_check::CheckWhat::{Follows, Form, NotEnabled, Outcome, Tail};
 use am_names::EndpointId;

@@ -1,3 +1,5 @@
+//! Reports of runs, checked.
+
 use crate::checked::run_tables::{
     CALLS, CLIENTS, ENDS, FIRST, FRAMES, FULL, HEAD, LAST, LOSSES, LOST, REPORTS, REST, TAIL,
     TRIED, TRIES,

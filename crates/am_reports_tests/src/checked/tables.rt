@@ -1,3 +1,5 @@
+//! Reports of step scripts, right and wrong, and the first fault of each.
+
 use am_check::CheckStop::{self, Fault};
 use am_check::CheckWhat::{Follows, Form, Outcome, Tail};
 

@@ -1,3 +1,5 @@
+//! Reports of step scripts, checked.
+
 use crate::checked::tables::{CALLS, HEAD, IDLE, REPORTS, RUNS, SCENARIO, TAIL};
 use crate::checked::texts::joined;
 use am_check::{CheckStop, CheckWhat, check_steps};

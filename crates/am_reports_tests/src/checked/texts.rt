@@ -1,3 +1,5 @@
+//! Texts put together.
+
 use std::alloc::Global;
 use std::test::Fail;
 

@@ -1,3 +1,5 @@
+//! The order of serials, fates, the line of each kind of event, and reports.
+
 use crate::printed::entries::CALLS;
 use crate::printed::events::OTHERS;
 use crate::printed::journals::{FATES, REPORTS};

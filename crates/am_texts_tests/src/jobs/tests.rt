@@ -1,3 +1,5 @@
+//! Texts whose words are counted, and the rounds that send them.
+
 ghost use Rattle.std.specs.Prelude.{◌<◌, ◌≤◌, length};
 
 use am_job::words::{CodedWord, Tally, WordCount, split};

@@ -1,3 +1,5 @@
+//! Each kind of line of a scenario, and the order of faults.
+
 use crate::scenarios::runs::RUNS;
 use crate::scenarios::single_lines::{
     PLAN_HEAD, PLAN_LINES, POOL_HEAD, POOL_LINES, RUN_HEAD, RUN_LINES, STEP_HEAD, STEP_LINES,

@@ -1,3 +1,5 @@
+//! Texts with segments: what they stand for, and their faults.
+
 ghost use Rattle.std.specs.Prelude.{◌≤◌, IfOk, length};
 
 use crate::segments::tables::{HEAD, OTHER_FAULTS, OWN_FAULTS};

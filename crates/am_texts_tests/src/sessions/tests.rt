@@ -1,3 +1,5 @@
+//! Texts of sessions: their reports, their faults, and where they stop.
+
 use crate::sessions::tables::{FAULTS, REPORTS, STOPS};
 use am_lexer::What;
 use am_restart::{Say, Session, SessionCondition, SessionEvent, SessionFault, SessionOutcome};

@@ -1,3 +1,5 @@
+//! Links on one thread and between two.
+
 ghost use Rattle.std.specs.Prelude.{◌+◌, ◌*◌, ◌<◌};
 ghost use Rattle.am_wire.specs.Links.{SameEnd, SameLink};
 

@@ -1,4 +1,5 @@
-// Two threads that write into four books, and a frame.
+//! Two threads that write into four books, and a frame.
+
 ghost use Rattle.std.specs.Prelude.{◌≡◌, ℕ, ◌+◌, ◌-◌, ◌<◌, ◌≤◌, Contains, IfOk, IfSome, length};
 ghost use mathlib.Core.Option.{some};
 ghost use lib.ListN.{get_elem?};
