@@ -3,3 +3,4 @@ pub mod Reported
 pub mod Again
 pub mod StoppedDue
 pub mod Following
+pub mod StoppedSteps

@@ -1,5 +1,7 @@
 pub mod Touches
 pub mod Packets
 pub mod Reasons
+pub mod Refusals
+pub mod Stops
 pub mod Journal
 pub mod Due

@@ -1,11 +1,13 @@
 -- What became of a message, and why.
-use Rattle.std.specs.Prelude.{◌≡◌, ℕ, Option, Some, None, List, [], ◌++◌, codes, take, drop, if◌then◌else◌}
+use Rattle.std.specs.Prelude.{◌≡◌, ℕ, Bool, Option, Some, None, List, [], ◌++◌, codes, take, drop, if◌then◌else◌}
 use Rattle.std.specs.Fmt.{decimal}
 use Rattle.am_check.specs.Cut.{place_of}
+use Rattle.am_check.specs.Declares.{declares}
 use Rattle.am_check.specs.Follows.{IsBegun, IsEnded, ids_of}
 use Rattle.am_office_text.specs.EntryLines.Lines.{line_of}
 use Rattle.am_names.specs.declared.Cause.{Cause}
 use Rattle.am_names.specs.declared.Cause.TheVariants as Causes
+use Rattle.am_names.specs.declared.EndpointId.{EndpointId}
 use Rattle.am_names.specs.declared.Serial.{Serial}
 use Rattle.am_office_entries.specs.declared.Entry.{Entry}
 use Rattle.am_office_entries.specs.declared.endings.Fate.{Fate}
@@ -73,3 +75,11 @@ pub record Tells (form : Form) (text : List ℕ) (s : Serial) (out : List ℕ) :
   pub scenario : ScenarioLists
   pub spelled : Spells form (take place text) scenario
   pub told : TellsOf form scenario (drop place text) s out
+
+-- Whether the scenario in front of the report in a text declares an endpoint.
+pub record IsDeclared (form : Form) (text : List ℕ) (e : EndpointId) (declared : Bool) : Type 0 where
+  pub place : ℕ
+  pub place' : place_of text ≡ Some place
+  pub scenario : ScenarioLists
+  pub spelled : Spells form (take place text) scenario
+  pub declared' : declared ≡ declares e scenario.ends

@@ -10,7 +10,7 @@ ghost use Rattle.am_scenario_types.specs.Lists.{ScenarioLists};
 ghost use Rattle.std.specs.Prelude.{◌≡◌, ◌<◌, ◌^◌, Err, IfOk, length};
 
 mod choices;
-mod found;
+pub(crate) mod found;
 mod texts;
 mod told;
 

@@ -2,9 +2,10 @@
 //! its cause.
 #![tactic(auto)]
 
+ghost use Rattle.am_check.specs.Declares as declarations;
 ghost use Rattle.am_check.specs.Exact.{IsChecked};
 ghost use Rattle.am_check.specs.Verdict.{IsReportOf};
-ghost use Rattle.am_lab_reasons.specs.Reasons.{Tells, TellsOf, reasons};
+ghost use Rattle.am_lab_reasons.specs.Reasons.{IsDeclared, Tells, TellsOf, reasons};
 ghost use Rattle.am_scenario_types.specs.Lawful.{IsLawful};
 ghost use Rattle.am_scenario_types.specs.declared.parts.Form.{Form as Kind};
 ghost use Rattle.std.specs.Prelude.{◌≡◌, ◌<◌, ◌^◌, IfOk, length};
@@ -12,6 +13,8 @@ ghost use Rattle.std.specs.Prelude.{◌≡◌, ◌<◌, ◌^◌, IfOk, length};
 pub mod due;
 pub mod journal;
 mod packets;
+pub mod refusals;
+pub mod stops;
 mod told;
 mod touches;
 
@@ -19,9 +22,9 @@ use crate::journal::reach_end;
 use crate::told::put_reasons;
 use am_check::place_of;
 use am_machine::Cluster;
-use am_names::{NoMemory, Serial};
+use am_names::{EndpointId, NoMemory, Serial};
 use am_office_entries::Journal;
-use am_scenario::{Form, PlanLine, Scenario, read};
+use am_scenario::{EndLine, Form, PlanLine, Scenario, read};
 use std::alloc::Global;
 
 fn text_of(
@@ -72,6 +75,40 @@ pub fn why(alloc: Global, form: Form, text: &[u8], serial: Serial) -> Result<Vec
     };
     match read(alloc, form, &text[..place]) {
         Ok(scenario) => reasons_of(alloc, &scenario, &text[place..], serial),
+        Err(_) => Err(NoMemory),
+    }
+}
+
+// Whether one of these lines declares an endpoint.
+fn declares(lines: &[EndLine], end: EndpointId) -> bool
+    ensures { result ≡ declarations.declares end lines.now }
+{
+    lines.iter().any(|line| end.0 == line.id.0)
+}
+
+// Whether a scenario declares an endpoint.
+fn has_end(scenario: &Scenario, end: EndpointId) -> bool
+    ensures { result ≡ declarations.declares end scenario.now.ends }
+{
+    declares(&scenario.ends, end)
+}
+
+/// Whether the scenario in front of the report in a text declares an endpoint. The text is one to which `check` says yes.
+///
+/// `NoMemory` comes where there is none for the scenario.
+pub fn is_declared(
+    alloc: Global,
+    form: Form,
+    text: &[u8],
+    end: EndpointId,
+) -> Result<bool, NoMemory>
+    ensures { IfOk result (IsDeclared form text.now end) }
+{
+    let Some(place) = place_of(text) else {
+        return Err(NoMemory);
+    };
+    match read(alloc, form, &text[..place]) {
+        Ok(scenario) => Ok(has_end(&scenario, end)),
         Err(_) => Err(NoMemory),
     }
 }

@@ -1,0 +1,5 @@
+pub mod Lines
+pub mod Faults
+pub mod Places
+pub mod Stands
+pub mod Refusals
