@@ -26,3 +26,6 @@ pub mod Rounds
 pub mod Told
 pub mod TextsPrinted
 pub mod Replaying
+pub mod Drawing
+pub mod Lawfully
+pub mod Saying

@@ -4,8 +4,7 @@ use Rattle.std.specs.Prelude.{slice_get}
 use Rattle.std.proofs.lemmas.List.FromFn.{get_or-map-range_with_len, length-map-range_with_len}
 use Rattle.std.proofs.lemmas.Option.{slice_get-get_or, slice_get_past}
 use Rattle.am_job.specs.Rounds.{round_at, round_count, rounds_of}
-use Rattle.am_lab_scenarios.specs.Derived.Answers.{PrintsRound, PrintsScenario, RoundAnswers, RoundOrNone, no_round, numbered}
-use Rattle.am_main_lines.specs.Offers.{text_too_long}
+use Rattle.am_lab_scenarios.specs.Derived.Answers.{PrintsRound, PrintsScenario, RoundAnswers, RoundOrNone, no_round, numbered, text_too_long}
 use Rattle.am_main_lines.specs.Lines.{Answer}
 use Rattle.am_scenario_types.specs.Lists.{ScenarioLists}
 use Rattle.am_job.specs.declared.words.codes.CodedWord.{CodedWord}

@@ -5,19 +5,19 @@ use Rattle.std.proofs.Common.{◌≡◌, inl, inr, ℕ, zero, suc, List, [], ◌
 use Rattle.am_cluster.proofs.Obeying.{alone_is_stopped}
 use Rattle.am_cluster.specs.declared.RunFault.TheVariants as Runs
 use Rattle.am_job.specs.Count.Counting.{IsRound, PrintsCount}
-use Rattle.am_main_count.specs.Cluster.Rounds.{IsRoundRun}
+use Rattle.am_main_run.specs.Counts.Cluster.Rounds.{IsRoundRun}
 use Rattle.am_job.specs.Rounds.{round_at, rounds_of}
 use Rattle.am_lab_scenarios.proofs.Rounds.{round_is}
 use Rattle.am_lab_scenarios.specs.Derived.Answers.{PrintsScenario, numbered}
 use Rattle.am_scenario_generator.specs.Scenarios.{generated}
 use Rattle.am_lab_scenarios.specs.DerivedLaws.Laws.{BeginsWithRun, CountsAreRun, CutCountsAreRun, IsCountedRun, IsCutRun, MakesAreRun, RunMayTell, SegmentsAreRun}
 use Rattle.am_lab_scenarios.specs.DerivedLaws.Laws.{TellOneRun, cut_off, reported}
-use Rattle.am_main_count.specs.Counts.{CutsCount}
+use Rattle.am_main_run.specs.Counts.Counts.{CutsCount}
 use Rattle.am_main_lines.specs.Lines.{Answer, full_line, ids_of}
 use Rattle.am_main_run.proofs.OneAnswer.{have_one_answer}
 use Rattle.am_main_run.proofs.RunMeaning.{is_run_of}
 use Rattle.am_main_run.specs.Runs.{IsRunAnswer, IsRunOf, MakeAnswers, PrintsCutRun, RunAnswers, TellsCutRun, make_text}
-use Rattle.am_main_segments.specs.Segments.{IsSegmentsAnswer}
+use Rattle.am_main_run.specs.Segments.Segments.{IsSegmentsAnswer}
 use Rattle.am_office_entries.specs.declared.Entry.{Entry}
 use Rattle.am_office_entries.specs.declared.Part.{Part}
 use Rattle.am_office_report.specs.Report.{report}

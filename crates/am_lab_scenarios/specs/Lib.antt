@@ -3,3 +3,4 @@ pub mod Replays
 pub mod Derived
 pub mod DerivedLaws
 pub mod Texts
+pub mod Faults

@@ -2,10 +2,12 @@
 //! reads.
 
 mod expansions;
+mod faulty;
 mod numbers;
 mod outputs;
 mod sendings;
 
 pub use crate::derived::expansions::expanded_scenario;
+pub use crate::derived::faulty::faulty_scenario;
 pub use crate::derived::numbers::made_scenario;
 pub use crate::derived::sendings::round_scenario;

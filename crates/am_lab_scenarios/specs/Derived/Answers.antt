@@ -3,9 +3,9 @@
 use Rattle.std.specs.Prelude.{◌≡◌, ◌⊎◌, ℕ, zero, suc, ◌<◌, ◌≤◌, List, [], ◌∷◌, codes, length, slice_get, Option, Some, None, Result, Ok, Err}
 use Rattle.std.specs.Fmt.{decimal}
 use Rattle.am_job.specs.Rounds.{rounds_of}
+use Rattle.am_lab_scenarios.specs.Faults.Plans.{with_drawn_plan}
 use Rattle.am_lab_scenarios.specs.Spelling.Texts.{scenario_text}
 use Rattle.am_main_lines.specs.Lines.{Answer, refusal}
-use Rattle.am_main_lines.specs.Offers.{text_too_long}
 use Rattle.am_scenario.specs.Laws.{Spells}
 use Rattle.am_scenario_types.specs.declared.faults.ScenarioFault.{ScenarioFault}
 use Rattle.am_scenario_types.specs.declared.parts.Form.TheVariants.{Run}
@@ -25,6 +25,11 @@ abbrev pub ExpandedAnswers : Result SegmentScenario ScenarioFault → Answer →
 ExpandedAnswers (Ok s) answer = PrintsScenario s.scenario answer
 ExpandedAnswers (Err fault) answer = answer ≡ refusal fault
 
+-- the answer to what a text spells, or to its first fault: the scenario is printed with the plan that a seed draws, and the rest as it was
+abbrev pub FaultsAnswers : (seed percent : ℕ) → Result ScenarioLists ScenarioFault → Answer → Type 0
+FaultsAnswers seed percent (Ok s) answer = PrintsScenario (with_drawn_plan seed percent s) answer
+FaultsAnswers seed percent (Err fault) answer = answer ≡ refusal fault
+
 -- the one of a list that has this number, counted from 1, if there is one
 abbrev pub numbered : {A : Type 0} → ℕ → List A → Option A
 numbered zero xs = None
@@ -42,6 +47,10 @@ RoundOrNone number count None answer = answer ≡ no_round number count
 -- the answer to a number, where these are the rounds
 abbrev pub PrintsRound : ℕ → List ScenarioLists → Answer → Type 0
 PrintsRound number rounds answer = RoundOrNone number (length rounds) (numbered number rounds) answer
+
+-- a text that is too long to be counted
+abbrev pub text_too_long : Answer
+text_too_long = record { status = 11; text = codes "text too long: more than 1048576 bytes\n" }
 
 -- the answer to a text and a number: the rounds are those in which `am2 count` sends the text's words, and a text of
 -- more than 1,048,576 bytes is not counted

@@ -1,14 +1,14 @@
 -- What `am2 run` answers to the text of a scenario that stands behind another run.
 use Rattle.std.specs.Prelude.{◌≡◌, ◌⊎◌, ℕ, List, ◌++◌, Some}
 use Rattle.am_job.specs.Count.Counting.{PrintsCount}
-use Rattle.am_main_count.specs.Cluster.Rounds.{IsRoundRun}
+use Rattle.am_main_run.specs.Counts.Cluster.Rounds.{IsRoundRun}
 use Rattle.am_job.specs.Rounds.{rounds_of}
 use Rattle.am_lab_scenarios.specs.Derived.Answers.{PrintsScenario, numbered}
 use Rattle.am_scenario_generator.specs.Scenarios.{generated}
-use Rattle.am_main_count.specs.Counts.{CutsCount}
+use Rattle.am_main_run.specs.Counts.Counts.{CutsCount}
 use Rattle.am_main_lines.specs.Lines.{Answer, full_line, ids_of}
 use Rattle.am_main_run.specs.Runs.{MakeAnswers, RunAnswers, make_text}
-use Rattle.am_main_segments.specs.Segments.{IsSegmentsAnswer}
+use Rattle.am_main_run.specs.Segments.Segments.{IsSegmentsAnswer}
 use Rattle.am_office_entries.specs.declared.Entry.{Entry}
 use Rattle.am_office_entries.specs.declared.Part.{Part}
 use Rattle.am_office_report.specs.Report.{report}

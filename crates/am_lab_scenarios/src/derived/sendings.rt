@@ -3,8 +3,7 @@
 ghost use Rattle.std.specs.Prelude.{◌≡◌, ◌⊎◌, ◌+◌, ◌<◌, ◌≤◌, IfNone, IfOk, IfSome};
 ghost use Rattle.std.specs.List.{All};
 ghost use Rattle.am_job.specs.Rounds.{rounds_of};
-ghost use Rattle.am_lab_scenarios.specs.Derived.Answers.{PrintsRound, RoundAnswers, no_round};
-ghost use Rattle.am_main_lines.specs.Offers.{text_too_long};
+ghost use Rattle.am_lab_scenarios.specs.Derived.Answers.{PrintsRound, RoundAnswers, no_round, text_too_long};
 ghost use Rattle.am_main_lines.specs.Lines.{answer_in};
 ghost use Rattle.am_job.specs.Words.Codes.{Fits};
 
@@ -34,7 +33,7 @@ fn no_round(alloc: Global, number: u64, count: u64) -> Result<Output, AllocError
 fn too_long(alloc: Global) -> Result<Output, AllocError>
     ensures { IfOk result (λ output. answer_in output ≡ text_too_long) }
 {
-    let text = Vec::from_slice(alloc, b"text too long\n")?;
+    let text = Vec::from_slice(alloc, b"text too long: more than 1048576 bytes\n")?;
     Ok(Output { status: 11, text })
 }
 
