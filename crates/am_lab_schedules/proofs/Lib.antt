@@ -1,3 +1,5 @@
 pub mod Seeds
 pub mod Texts
 pub mod Printed
+pub mod FromTheFront
+pub mod Finding

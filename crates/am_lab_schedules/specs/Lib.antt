@@ -1,4 +1,6 @@
 pub mod Schedules
 pub mod Told
 pub mod Distinct
+pub mod Beginnings
+pub mod Finds
 pub mod Outcomes

@@ -15,7 +15,11 @@ use am_scenario::{Form, ReadFault, Scenario, read};
 use std::alloc::{AllocError, Global};
 
 /// What is printed of a scenario's run by this seed.
-fn scenario_output(alloc: Global, scenario: &Scenario, seed: u64) -> Result<Output, AllocError>
+pub(crate) fn scenario_output(
+    alloc: Global,
+    scenario: &Scenario,
+    seed: u64,
+) -> Result<Output, AllocError>
     requires lawful { IsLawful scenario.now }
     requires packet { scenario.now.network ≡ Networks.Packet }
     ensures { IfOk result (λ output. IsRunAnswer scenario.now (answer_in output)) }
