@@ -1,0 +1,9 @@
+pub mod Telling
+pub mod Chosen
+pub mod Behind
+pub mod TextLines
+pub mod Passing
+pub mod Shrunk
+pub mod SameLines
+pub mod Turns
+pub mod OnlyAnswers
