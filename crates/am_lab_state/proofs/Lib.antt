@@ -1,0 +1,6 @@
+pub mod Answering
+pub mod Asking
+pub mod Following
+pub mod Fronting
+pub mod Holding
+pub mod Reading

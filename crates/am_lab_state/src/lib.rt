@@ -1,0 +1,20 @@
+//! The command `state`: the state of the machine behind a line of a report, and how two of them differ, line by line.
+#![tactic(auto)]
+
+mod answers;
+mod asked;
+mod channels;
+mod differences;
+mod ends;
+mod flights;
+mod fronts;
+mod heads;
+mod links;
+mod messages;
+mod readings;
+mod states;
+mod tables;
+mod threads;
+
+pub use crate::answers::state_output;
+pub use crate::asked::StateLines;

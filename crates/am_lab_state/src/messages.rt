@@ -1,0 +1,190 @@
+//! The messages of an endpoint.
+
+ghost use Rattle.am_lab_state.specs.Ends.{answered_word, flying_line, message_lines, notice_line, queued_line, received_line};
+ghost use Rattle.std.specs.List.{flat_map};
+ghost use Rattle.std.specs.Prelude.{◌≡◌, ◌++◌, OnOk};
+
+use crate::flights::flights;
+use am_block::List;
+use am_endpoint::Body;
+use am_model::{Flying, Notice, Queued};
+use am_names::{EndpointId, Message, NoMemory};
+use am_office_text::Piece::Text;
+use am_office_text::{Piece, kind_word, put_line, small, why_word};
+use std::alloc::{AllocError, Global};
+
+// Appends a message that is to be sent.
+fn put_queued(out: &mut Vec<u8>, end: EndpointId, queued: &Queued) -> Result<(), AllocError>
+    ensures { OnOk result (out.new.items ≡ out.old.items ++ queued_line end queued.now) }
+{
+    put_line(
+        out,
+        "endpoint",
+        &[
+            small(end.0),
+            Text("queued"),
+            Text(kind_word(queued.message.kind)),
+            Piece::Serial(queued.message.serial),
+            Text("bounces"),
+            small(queued.bounces),
+        ],
+    )
+}
+
+// Appends the messages of a queue.
+fn put_queue(out: &mut Vec<u8>, end: EndpointId, queue: &[Queued]) -> Result<(), AllocError>
+    ensures { OnOk result (out.new.items ≡ out.old.items ++ flat_map (queued_line end) queue.now) }
+{
+    for queued in queue {
+        put_queued(out, end, queued)?;
+    }
+    Ok(())
+}
+
+fn answered_word(answered: bool) -> &'static str
+    ensures { result.now ≡ answered_word answered }
+{
+    if answered { "answered" } else { "unanswered" }
+}
+
+// Appends a message in flight.
+fn put_flying(out: &mut Vec<u8>, end: EndpointId, flying: &Flying) -> Result<(), AllocError>
+    ensures { OnOk result (out.new.items ≡ out.old.items ++ flying_line end flying.now) }
+{
+    put_line(
+        out,
+        "endpoint",
+        &[
+            small(end.0),
+            Text("in-flight"),
+            Text(kind_word(flying.message.kind)),
+            Piece::Serial(flying.message.serial),
+            Text("bounces"),
+            small(flying.bounces),
+            Text(answered_word(flying.answered)),
+        ],
+    )
+}
+
+// Appends the messages in flight.
+fn put_flights(out: &mut Vec<u8>, end: EndpointId, flights: &[Flying]) -> Result<(), AllocError>
+    ensures { OnOk result (out.new.items ≡ out.old.items ++ flat_map (flying_line end) flights.now) }
+{
+    for flying in flights {
+        put_flying(out, end, flying)?;
+    }
+    Ok(())
+}
+
+// Appends a message that came back.
+fn put_notice(out: &mut Vec<u8>, end: EndpointId, notice: &Notice) -> Result<(), AllocError>
+    ensures { OnOk result (out.new.items ≡ out.old.items ++ notice_line end notice.now) }
+{
+    put_line(
+        out,
+        "endpoint",
+        &[
+            small(end.0),
+            Text("notice"),
+            Text(kind_word(notice.message.kind)),
+            Piece::Serial(notice.message.serial),
+            Text("bounces"),
+            small(notice.bounces),
+            Text(why_word(notice.why)),
+        ],
+    )
+}
+
+// Appends the messages that came back.
+fn put_notices(out: &mut Vec<u8>, end: EndpointId, notices: &[Notice]) -> Result<(), AllocError>
+    ensures { OnOk result (out.new.items ≡ out.old.items ++ flat_map (notice_line end) notices.now) }
+{
+    for notice in notices {
+        put_notice(out, end, notice)?;
+    }
+    Ok(())
+}
+
+// Appends a message that was received and not polled.
+fn put_arrival(out: &mut Vec<u8>, end: EndpointId, message: &Message) -> Result<(), AllocError>
+    ensures { OnOk result (out.new.items ≡ out.old.items ++ received_line end message.now) }
+{
+    put_line(
+        out,
+        "endpoint",
+        &[
+            small(end.0),
+            Text("received"),
+            Text(kind_word(message.kind)),
+            Piece::Serial(message.serial),
+        ],
+    )
+}
+
+// Appends the messages that were received and not polled.
+fn put_arrivals(out: &mut Vec<u8>, end: EndpointId, received: &[Message]) -> Result<(), AllocError>
+    ensures { OnOk result (out.new.items ≡ out.old.items ++ flat_map (received_line end) received.now) }
+{
+    for message in received {
+        put_arrival(out, end, message)?;
+    }
+    Ok(())
+}
+
+// Appends the replies and then the requests that are to be sent.
+#[tactic(auto, using(std::proofs::Common::append_assoc))]
+fn put_queues(
+    out: &mut Vec<u8>,
+    alloc: Global,
+    end: EndpointId,
+    body: &Body,
+) -> Result<(), NoMemory>
+    ensures { OnOk result (out.new.items ≡ out.old.items ++ flat_map (queued_line end) body.now.body.replies ++ flat_map (queued_line end) body.now.body.requests) }
+{
+    let replies = body.replies(alloc)?;
+    put_queue(out, end, &replies)?;
+    let requests = body.requests(alloc)?;
+    put_queue(out, end, &requests)?;
+    Ok(())
+}
+
+// Appends the messages in flight.
+fn put_flying_of(
+    out: &mut Vec<u8>,
+    alloc: Global,
+    end: EndpointId,
+    body: &Body,
+) -> Result<(), NoMemory>
+    ensures { OnOk result (out.new.items ≡ out.old.items ++ flat_map (flying_line end) body.now.body.in_flight) }
+{
+    let flying = flights(alloc, &body.block, List::InFlight)?;
+    put_flights(out, end, &flying)?;
+    Ok(())
+}
+
+// Appends the messages that came back, and those that were received.
+#[tactic(auto, using(std::proofs::Common::append_assoc))]
+fn put_come(out: &mut Vec<u8>, alloc: Global, end: EndpointId, body: &Body) -> Result<(), NoMemory>
+    ensures { OnOk result (out.new.items ≡ out.old.items ++ flat_map (notice_line end) body.now.body.notices ++ flat_map (received_line end) body.now.body.received) }
+{
+    let notices = body.notices(alloc)?;
+    put_notices(out, end, &notices)?;
+    let received = body.received(alloc)?;
+    put_arrivals(out, end, &received)?;
+    Ok(())
+}
+
+/// Appends the messages of an endpoint. `NoMemory` comes where there is none for copies of its lists or for the text.
+#[tactic(auto, using(std::proofs::Common::append_assoc))]
+pub(crate) fn put_messages(
+    out: &mut Vec<u8>,
+    alloc: Global,
+    end: EndpointId,
+    body: &Body,
+) -> Result<(), NoMemory>
+    ensures { OnOk result (out.new.items ≡ out.old.items ++ message_lines end body.now.body) }
+{
+    put_queues(out, alloc, end, body)?;
+    put_flying_of(out, alloc, end, body)?;
+    put_come(out, alloc, end, body)
+}
