@@ -1,0 +1,21 @@
+use Rattle.std.proofs.Common.{◌≡◌, ℕ, List, length, ap, subst, arith}
+use Rattle.std.specs.Global.{Vec}
+use Rattle.std.specs.Prelude.{IfOk}
+use Rattle.am_lab_reasons.proofs.Reported.{reported}
+use Rattle.am_office_entries.specs.declared.Entry.{Entry}
+use Rattle.am_lab_page.specs.Json.Objects.{json_of}
+use Rattle.am_lab_page.proofs.json.report_text.Goals as goal
+
+pub journal_text-requires : goal.journal_text-requires
+journal_text-requires c =
+    let form = c.requires.report.0 in
+    let r = c.requires.report.1 in
+    let t = reported form c.args.scenario.now c.requires.lawful c.args.bytes.now c.requires.few r in
+    let long = ap length (c.in_ok-journal.ensures form r) in
+    let low = t.low in
+    let few = c.requires.few in
+    omega (arith, long, low, few)
+
+pub returns : goal.returns
+returns c = λ form r.
+    subst (λ (j : List Entry). IfOk c.journal_text.result (λ (text : Vec ℕ). text.items ≡ json_of j)) (c.in_ok-journal.ensures form r) c.journal_text.ensures
