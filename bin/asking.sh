@@ -22,7 +22,8 @@ say_wrong() {
 files_of() {
     case $1 in
         nothing) ;;
-        both) echo ' [FILE [REPORT]]' ;;
+        both | any) echo ' [FILE [REPORT]]' ;;
+        behind) echo ' [-- FILE]' ;;
         *) echo ' [FILE]' ;;
     esac
 }
@@ -44,7 +45,7 @@ help_of() {
 help_of_row() {
     local i=$2 token
     printf 'usage: %s\n%s.\n' "$1" "${word_rows[i + 3]^}"
-    for token in W U ROUND N E.K '[FROM TO]' 'SEED[..SEED2]'; do
+    for token in W U ROUND N E.K '[FROM TO]' 'SEED[..SEED2]' '[LINE [LINE2]]' A..B SEED PERCENT WORDS..; do
         case " ${word_rows[i + 1]} " in *" $token "*) asked_range "$token" ;; esac
     done
     printf '%s\nFor example: %s %s\n' "$(asked_input "${word_rows[i + 2]}")" "$called" "${word_rows[i + 4]}"
@@ -125,6 +126,10 @@ fits() {
         U) is_number "$2" 0 10000 ;;
         ROUND) is_number "$2" 1 18446744073709551615 ;;
         E.K) [[ $2 == *.* ]] && is_number "${2%%.*}" 0 255 && is_number "${2#*.}" 1 4294967295 ;;
+        SEED) is_number "$2" 0 18446744073709551615 ;;
+        PERCENT) is_number "$2" 0 100 ;;
+        A..B) [[ $2 == *..* ]] && seeds=$(seeds_fault "$2") && [ -z "$seeds" ] ;;
+        WORDS..) [[ -n $2 && $2 != --* ]] ;;
         'SEED[..SEED2]') is_number "$2" 0 18446744073709551615 || { [[ $2 == *..* ]] && seeds=$(seeds_fault "$2") && [ -z "$seeds" ]; } ;;
         *) [[ "|$1|" == *"|$2|"* ]] ;;
     esac
@@ -165,7 +170,8 @@ either() {
 by_row() {
     local -a tokens=()
     local token
-    read -ra tokens <<<"${1/\[FROM TO\]/[FROM-TO]}"
+    local shown=${1/\[FROM TO\]/[FROM-TO]} first
+    read -ra tokens <<<"${shown/\[LINE \[LINE2\]\]/[LINES]}"
     score=0 taken=0 wanted=
     for token in "${tokens[@]}"; do
         if [[ $token == '[--'* ]]; then
@@ -175,6 +181,24 @@ by_row() {
                 taken=$((taken + 2))
             elif [[ ${words[taken]-} =~ ^-?[0-9]+$ ]]; then
                 wanted='[FROM TO]'
+                return
+            fi
+        elif [ "$token" = '[LINES]' ]; then
+            first=$taken
+            while [ $((taken - first)) -lt 2 ] && is_number "${words[taken]-}" 0 4294967295; do
+                taken=$((taken + 1))
+            done
+            if [[ ${words[taken]-} =~ ^-?[0-9]+$ ]]; then
+                wanted='[LINE [LINE2]]'
+                return
+            fi
+        elif [ "$token" = WORDS.. ]; then
+            first=$taken
+            while [ "$taken" -lt "${#words[@]}" ] && fits WORDS.. "${words[taken]}"; do
+                taken=$((taken + 1)) score=$((score + 1))
+            done
+            if [ "$taken" -eq "$first" ]; then
+                wanted=$token
                 return
             fi
         elif [ "$taken" -lt "${#words[@]}" ] && fits "$token" "${words[taken]}"; then
@@ -253,7 +277,7 @@ files_fault() {
     for flag in ${flags+"${flags[@]}"}; do
         [[ $row == *"[$flag]"* ]] || echo "there is no option $flag"
     done
-    case $kind in nothing) most=0 ;; both) most=2 ;; esac
+    case $kind in nothing) most=0 ;; both | any) most=2 ;; esac
     if [ ${#files[@]} -gt $most ]; then
         echo "a word too many: ${files[most]}"
         return
@@ -326,14 +350,15 @@ meanwhile() {
     echo "Meanwhile a second reading of the rules, in Python and with nothing to build, $([ "$name" = am2 ] && echo 'does the same' || echo 'judges the report'): python3 $reading $asked${given:+ $given}"
 }
 
-# What a status other than 0 means, and what tells more of a report that is refused.
+# What a status other than 0 means, and what tells more of a scenario or a report that is refused.
 tell_status() {
     local asked=${words[*]:0:taken} form
     [ "$1" -ne 0 ] || return
     { [ -t 1 ] && [ -z "$out" ]; } || say "$called: status $1: $(status_meaning "$1")"
     case $1:$asked in
-        10:check*) form=${asked#check } ;;
-        10:why* | 10:chart* | 10:replay*) form=${words[1]} ;;
+        3:step | 3:run | 3:check* | 10:check*) form=${asked#check } ;;
+        3:why* | 3:chart* | 3:replay* | 3:scenario\ step | 3:scenario\ run | 10:why* | 10:chart* | 10:replay*) form=${words[1]} ;;
+        3:schedule*) form=run ;;
         *) return ;;
     esac
     say "$(beside am2_lab) explain $form ${files[*]:-< FILE} tells more"
@@ -341,16 +366,17 @@ tell_status() {
 
 # Runs the program on the files. Only where something is to be said behind it does this script stay.
 run_program() {
-    local wait_for=$kind
+    local wait_for=$kind behind= file=FILE
     local -a asked=("${words[@]:0:taken}" ${flags+"${flags[@]}"})
-    [ "$kind" = both ] && wait_for='scenario and its report'
+    [ "${words[0]}" = find ] && asked=(find ${flags+"${flags[@]}"} "${words[@]:1:taken-1}")
+    case $kind in both) wait_for='scenario and its report' behind=' REPORT' ;; any) wait_for='scenario, or a scenario and its report,' behind=' [REPORT]' ;; behind) wait_for=scenario file='-- FILE' ;; esac
     if [ ${#files[@]} -eq 2 ]; then
         exec 3<&0
         exec < <(joined) 3<&-
     elif [ ${#files[@]} -eq 1 ] && [ "${files[0]}" != - ]; then
         exec <"${files[0]}"
     elif [ "$kind" != nothing ] && [ -t 0 ]; then
-        say "$called reads a $wait_for from the keyboard; Ctrl-D in a line of its own ends it. From a file: $called ${asked[*]} FILE$([ "$kind" = both ] && echo ' REPORT')"
+        say "$called reads a $wait_for from the keyboard; Ctrl-D in a line of its own ends it. From a file: $called ${asked[*]} $file$behind"
     fi
     [ -z "$out" ] || exec >"$out" || exit 5
     [ -t 2 ] || exec "$program" "${asked[@]}"
@@ -373,6 +399,7 @@ read_options() {
                 out=$2
                 shift
                 ;;
+            --seed) if [ "${words[0]-}" = shrink ]; then words+=("$1"); else flags+=("$1"); fi ;;
             --?*) flags+=("$1") ;;
             *) words+=("$1") ;;
         esac
@@ -394,6 +421,7 @@ answer() {
     find_row
     [ -z "$fault" ] || refuse "$fault"
     files=("${words[@]:taken}")
+    [ "$kind" != behind ] || [ "${files[0]-}" != -- ] || files=("${files[@]:1}")
     if [ $((${#files[@]} + ${#flags[@]})) -gt 0 ] || [ -n "$out" ]; then
         fault=$(files_fault | head -n 1)
         [ -z "$fault" ] || refuse "$fault"

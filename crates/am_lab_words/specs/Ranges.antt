@@ -12,4 +12,7 @@ AreFewSeeds seeds = (seeds.from < seeds.to) × (seeds.to ≤ seeds.from + 100_00
 abbrev pub IsInRange : Asked → Type 0
 IsInRange (Commands.Round nodes turns number) = (0 < nodes) × (nodes ≤ 8) × (turns ≤ 10_000)
 IsInRange (Commands.Schedules seeds) = AreFewSeeds seeds
+IsInRange (Commands.Find seeds) = AreFewSeeds seeds
+IsInRange (Commands.FindWithout seeds) = AreFewSeeds seeds
+IsInRange (Commands.Faults seed percent) = percent ≤ 100
 IsInRange asked = Unit {0}

@@ -1,15 +1,17 @@
 -- What the words after the program's name ask for, or what is wrong with them. Their numbers are spelled as numbers are printed: one or
 -- more digits without a leading zero, with a value below 2 ^ 64.
-use Rattle.std.specs.Prelude.{ℕ, ◌+◌, ◌-◌, ◌==◌, ◌&&◌, not, nat_lt, nat_le, Bool, true, false, List, [], ◌∷◌, codes, take, drop, if◌then◌else◌}
+use Rattle.std.specs.Prelude.{ℕ, ◌+◌, ◌-◌, ◌==◌, ◌&&◌, not, nat_lt, nat_le, Bool, true, false, nat_eq, List, [], ◌∷◌, codes, take, drop, if◌then◌else◌}
 use Rattle.std.specs.Prelude.{Option, Some, None, Result, Ok, Err}
-use Rattle.std.specs.List.{position}
+use Rattle.std.specs.List.{list_all, position, starts_with}
 use Rattle.std.specs.Str.{bytes_eq}
-use Rattle.am_lexer.specs.Text.{number_of}
+use Rattle.am_lexer.specs.Text.{has_bytes, number_of}
 use Rattle.am_names.specs.declared.Serial.{Serial}
 use Rattle.am_scenario_types.specs.declared.parts.Form.{Form}
 use Rattle.am_scenario_types.specs.declared.parts.Form.TheVariants as Forms
 use Rattle.am_lab_words.specs.declared.Asked.{Asked}
 use Rattle.am_lab_words.specs.declared.Asked.TheVariants as Commands
+use Rattle.am_lab_words.specs.declared.Seeds.{Seeds}
+use Rattle.am_lab_words.specs.declared.States.TheVariants as States
 use Rattle.am_lab_words.specs.declared.mistakes.Wrong.{Wrong}
 use Rattle.am_lab_words.specs.declared.mistakes.Wrong.TheVariants as Wrongs
 
@@ -29,11 +31,14 @@ has_no_leading_zero (digit ∷ next ∷ digits) = not (digit == 48)
 unfoldable pub printed_number : List ℕ → Option ℕ
 printed_number word = if has_no_leading_zero word then number_of word else None
 
--- ---- explain FORM
+-- ---- explain FORM, explain step --front
 
 abbrev pub explain_in : Option Form → Result Asked Wrong
 explain_in None = Err Wrongs.Form
 explain_in (Some form) = Ok (Commands.Explain form)
+
+unfoldable pub front_of : List ℕ → List ℕ → Result Asked Wrong
+front_of word option = if bytes_eq word (codes "step") && bytes_eq option (codes "--front") then Ok Commands.Front else Err Wrongs.Front
 
 -- ---- why FORM SERIAL
 
@@ -122,12 +127,12 @@ replay_of word = if bytes_eq word (codes "run") then Ok Commands.Replay else Err
 -- ---- schedule SEED, schedule SEED..SEED2
 
 -- the seeds from one up to another, which isn't among them: 1 to 100,000
-unfoldable pub seeds_of : ℕ → ℕ → Result Asked Wrong
+unfoldable pub seeds_of : ℕ → ℕ → Result Seeds Wrong
 seeds_of from to =
     if nat_le to from then Err Wrongs.EmptyRange else
-    if nat_lt 100_000 (to - from) then Err Wrongs.LongRange else Ok (Commands.Schedules (record { from = from; to = to }))
+    if nat_lt 100_000 (to - from) then Err Wrongs.LongRange else Ok (record { from = from; to = to })
 
-abbrev pub numbers_of : Option ℕ → Option ℕ → Result Asked Wrong
+abbrev pub numbers_of : Option ℕ → Option ℕ → Result Seeds Wrong
 numbers_of (Some from) (Some to) = seeds_of from to
 numbers_of from to = Err Wrongs.RangeOfWords
 
@@ -137,29 +142,147 @@ is_closed [] = false
 is_closed (byte ∷ bytes) = byte == 61
 
 -- what stands before two points, and what stands behind them
-unfoldable pub range_of : List ℕ → List ℕ → Result Asked Wrong
+unfoldable pub range_of : List ℕ → List ℕ → Result Seeds Wrong
 range_of [] to = Err Wrongs.RangeWithoutStart
 range_of from [] = Err Wrongs.RangeWithoutEnd
 range_of from to = if is_closed to then Err Wrongs.ClosedRange else numbers_of (printed_number from) (printed_number to)
 
 -- what stands before a point, and what stands behind it
-unfoldable pub points_of : List ℕ → List ℕ → Result Asked Wrong
+unfoldable pub points_of : List ℕ → List ℕ → Result Seeds Wrong
 points_of from [] = Err Wrongs.Seed
 points_of from (byte ∷ to) = if byte == 46 then range_of from to else Err Wrongs.Seed
 
 -- a word, and where its first point is
-abbrev pub range_at : List ℕ → Option ℕ → Result Asked Wrong
+abbrev pub range_at : List ℕ → Option ℕ → Result Seeds Wrong
 range_at word None = Err Wrongs.Seed
 range_at word (Some at) = points_of (take at word) (drop (at + 1) word)
 
+unfoldable pub seeds_in : List ℕ → Result Seeds Wrong
+seeds_in word = range_at word (position (λ byte. byte == 46) word)
+
+abbrev pub schedule_in : Result Seeds Wrong → Result Asked Wrong
+schedule_in (Ok seeds) = Ok (Commands.Schedules seeds)
+schedule_in (Err wrong) = Err wrong
+
 abbrev pub seed_or_range : List ℕ → Option ℕ → Result Asked Wrong
 seed_or_range word (Some seed) = Ok (Commands.Schedule seed)
-seed_or_range word None = range_at word (position (λ byte. byte == 46) word)
+seed_or_range word None = schedule_in (seeds_in word)
 
 unfoldable pub schedule_of : List ℕ → Result Asked Wrong
 schedule_of word = seed_or_range word (printed_number word)
 
--- ---- all commands, by how many words there are
+-- ---- json FORM
+
+abbrev pub json_in : Option Form → Result Asked Wrong
+json_in None = Err Wrongs.Form
+json_in (Some form) = Ok (Commands.Json form)
+
+-- ---- state FORM, state FORM LINE, state FORM LINE LINE2
+
+abbrev pub state_at_end : Option Form → Result Asked Wrong
+state_at_end None = Err Wrongs.Form
+state_at_end (Some form) = Ok (Commands.State form States.End)
+
+unfoldable pub state_line : Form → Option ℕ → Result Asked Wrong
+state_line form None = Err Wrongs.StateLine
+state_line form (Some line) = if nat_le line 0xffff_ffff then Ok (Commands.State form (States.Behind line)) else Err Wrongs.StateLine
+
+abbrev pub state_behind : Option Form → List ℕ → Result Asked Wrong
+state_behind None line = Err Wrongs.Form
+state_behind (Some form) line = state_line form (printed_number line)
+
+unfoldable pub state_by : Form → ℕ → ℕ → Result Asked Wrong
+state_by form from to =
+    if nat_le from 0xffff_ffff && nat_le to 0xffff_ffff then Ok (Commands.State form (States.Between (record { from = from; to = to }))) else Err Wrongs.StateLine
+
+abbrev pub state_change : Form → Option ℕ → Option ℕ → Result Asked Wrong
+state_change form (Some from) (Some to) = state_by form from to
+state_change form from to = Err Wrongs.StateLine
+
+abbrev pub state_between : Option Form → List ℕ → List ℕ → Result Asked Wrong
+state_between None from to = Err Wrongs.Form
+state_between (Some form) from to = state_change form (printed_number from) (printed_number to)
+
+-- ---- the words that a line of a report is to begin with
+
+-- what may stand among them: no empty word, and none with two dashes in front, as the options have
+unfoldable pub is_line_word : List ℕ → Bool
+is_line_word word = has_bytes word && not (starts_with nat_eq word (codes "--"))
+
+-- there is one at least
+unfoldable pub are_line_words : List (List ℕ) → Bool
+are_line_words [] = false
+are_line_words (word ∷ words) = list_all is_line_word (word ∷ words)
+
+-- ---- find A..B WORDS.., find --not A..B WORDS..
+
+-- the seeds that are looked through, with the words of a line behind them
+abbrev pub seeds_before : Result Seeds Wrong → Bool → Result Seeds Wrong
+seeds_before (Err wrong) is_line = Err Wrongs.FindRange
+seeds_before (Ok seeds) false = Err Wrongs.FindLine
+seeds_before (Ok seeds) true = Ok seeds
+
+unfoldable pub line_seeds : List ℕ → List (List ℕ) → Result Seeds Wrong
+line_seeds range line = seeds_before (seeds_in range) (are_line_words line)
+
+abbrev pub asks_with : Result Seeds Wrong → Result Asked Wrong
+asks_with (Ok seeds) = Ok (Commands.Find seeds)
+asks_with (Err wrong) = Err wrong
+
+abbrev pub asks_without : Result Seeds Wrong → Result Asked Wrong
+asks_without (Ok seeds) = Ok (Commands.FindWithout seeds)
+asks_without (Err wrong) = Err wrong
+
+abbrev pub find_with : List ℕ → List (List ℕ) → Result Asked Wrong
+find_with range line = asks_with (line_seeds range line)
+
+abbrev pub find_without : List (List ℕ) → Result Asked Wrong
+find_without [] = Err Wrongs.Form
+find_without (range ∷ line) = asks_without (line_seeds range line)
+
+unfoldable pub find_of : List (List ℕ) → Result Asked Wrong
+find_of [] = Err Wrongs.Form
+find_of (word ∷ words) = if bytes_eq word (codes "--not") then find_without words else find_with word words
+
+-- ---- faults SEED PERCENT
+
+unfoldable pub faults_by : ℕ → ℕ → Result Asked Wrong
+faults_by seed percent = if nat_le percent 100 then Ok (Commands.Faults seed percent) else Err Wrongs.Faults
+
+abbrev pub faults_in : Option ℕ → Option ℕ → Result Asked Wrong
+faults_in (Some seed) (Some percent) = faults_by seed percent
+faults_in seed percent = Err Wrongs.Faults
+
+abbrev pub faults_of : List ℕ → List ℕ → Result Asked Wrong
+faults_of seed percent = faults_in (printed_number seed) (printed_number percent)
+
+-- ---- shrink FORM WORDS.., shrink run --seed N WORDS..
+
+abbrev pub shrink_plain : Form → List (List ℕ) → Result Asked Wrong
+shrink_plain form line = if are_line_words line then Ok (Commands.Shrink form) else Err Wrongs.ShrinkLine
+
+abbrev pub shrink_by : Option ℕ → List (List ℕ) → Result Asked Wrong
+shrink_by None line = Err Wrongs.ShrinkSeed
+shrink_by (Some seed) line = if are_line_words line then Ok (Commands.ShrinkSeeded seed) else Err Wrongs.ShrinkLine
+
+-- a seed is of a run alone
+abbrev pub shrink_seeded : Form → List (List ℕ) → Result Asked Wrong
+shrink_seeded Forms.Run (seed ∷ line) = shrink_by (printed_number seed) line
+shrink_seeded form words = Err Wrongs.ShrinkSeed
+
+unfoldable pub shrink_form : Form → List (List ℕ) → Result Asked Wrong
+shrink_form form [] = shrink_plain form []
+shrink_form form (word ∷ words) = if bytes_eq word (codes "--seed") then shrink_seeded form words else shrink_plain form (word ∷ words)
+
+abbrev pub shrink_in : Option Form → List (List ℕ) → Result Asked Wrong
+shrink_in None words = Err Wrongs.Form
+shrink_in (Some form) words = shrink_form form words
+
+unfoldable pub shrink_of : List (List ℕ) → Result Asked Wrong
+shrink_of [] = Err Wrongs.Form
+shrink_of (word ∷ words) = shrink_in (form_of word) words
+
+-- ---- the commands with a fixed number of words, by how many there are
 
 unfoldable pub of_two_words : List ℕ → List ℕ → Result Asked Wrong
 of_two_words command word =
@@ -167,25 +290,55 @@ of_two_words command word =
     if bytes_eq command (codes "chart") then chart_whole (form_of word) else
     if bytes_eq command (codes "scenario") then scenario_of word else
     if bytes_eq command (codes "replay") then replay_of word else
-    if bytes_eq command (codes "schedule") then schedule_of word else Err Wrongs.Form
+    if bytes_eq command (codes "schedule") then schedule_of word else
+    if bytes_eq command (codes "json") then json_in (form_of word) else
+    if bytes_eq command (codes "state") then state_at_end (form_of word) else Err Wrongs.Form
 
 unfoldable pub of_three_words : List ℕ → List ℕ → List ℕ → Result Asked Wrong
 of_three_words command word other =
+    if bytes_eq command (codes "explain") then front_of word other else
     if bytes_eq command (codes "why") then why_in (form_of word) other else
     if bytes_eq command (codes "chart") then chart_half (form_of word) else
-    if bytes_eq command (codes "scenario") then make_of word other else Err Wrongs.Form
+    if bytes_eq command (codes "scenario") then make_of word other else
+    if bytes_eq command (codes "state") then state_behind (form_of word) other else
+    if bytes_eq command (codes "faults") then faults_of word other else Err Wrongs.Form
 
 unfoldable pub of_four_words : List ℕ → List ℕ → List ℕ → List ℕ → Result Asked Wrong
-of_four_words command word from to = if bytes_eq command (codes "chart") then chart_part (form_of word) from to else Err Wrongs.Form
+of_four_words command word from to =
+    if bytes_eq command (codes "chart") then chart_part (form_of word) from to else
+    if bytes_eq command (codes "state") then state_between (form_of word) from to else Err Wrongs.Form
 
 unfoldable pub of_five_words : List ℕ → List ℕ → List ℕ → List ℕ → List ℕ → Result Asked Wrong
 of_five_words command word nodes turns number =
     if bytes_eq command (codes "scenario") then count_of word nodes turns number else Err Wrongs.Form
 
+unfoldable pub of_words : List ℕ → List (List ℕ) → Result Asked Wrong
+of_words command (word ∷ []) = of_two_words command word
+of_words command (word ∷ other ∷ []) = of_three_words command word other
+of_words command (word ∷ from ∷ to ∷ []) = of_four_words command word from to
+of_words command (word ∷ nodes ∷ turns ∷ number ∷ []) = of_five_words command word nodes turns number
+of_words command words = Err Wrongs.Form
+
+-- ---- all commands
+
+unfoldable pub of_command : List ℕ → List (List ℕ) → Result Asked Wrong
+of_command command words =
+    if bytes_eq command (codes "find") then find_of words else
+    if bytes_eq command (codes "shrink") then shrink_of words else of_words command words
+
 -- WHAT THE WORDS ASK FOR, if they have one of the forms; else what is wrong with them
 unfoldable pub asked_for : List (List ℕ) → Result Asked Wrong
-asked_for (command ∷ word ∷ []) = of_two_words command word
-asked_for (command ∷ word ∷ other ∷ []) = of_three_words command word other
-asked_for (command ∷ word ∷ from ∷ to ∷ []) = of_four_words command word from to
-asked_for (command ∷ word ∷ nodes ∷ turns ∷ number ∷ []) = of_five_words command word nodes turns number
-asked_for words = Err Wrongs.Form
+asked_for [] = Err Wrongs.Form
+asked_for (command ∷ words) = of_command command words
+
+-- how many of these words stand in front of those that a line is to begin with
+abbrev pub words_before : Asked → ℕ
+words_before (Commands.Find seeds) = 2
+words_before (Commands.FindWithout seeds) = 3
+words_before (Commands.Shrink form) = 2
+words_before (Commands.ShrinkSeeded seed) = 4
+words_before asked = 0
+
+-- the words that a line is to begin with, of those that ask for this
+abbrev pub line_words : Asked → List (List ℕ) → List (List ℕ)
+line_words asked words = drop (words_before asked) words

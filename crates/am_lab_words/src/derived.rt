@@ -10,8 +10,8 @@ pub(crate) const MAKE_EXAMPLE: &str = "bin/am2_lab scenario make 7";
 /// A line that asks for the scenario of a round.
 pub(crate) const COUNT_EXAMPLE: &str = "bin/am2_lab scenario count 4 0 1 < README.md";
 
-// A number from one to another.
-fn number_word<'a>(
+/// A number from one to another.
+pub(crate) fn number_word<'a>(
     alloc: Global,
     name: &'static str,
     least: u64,

@@ -7,10 +7,14 @@ ghost use Rattle.am_lab_words.specs.Words as texts;
 ghost use Rattle.am_lab_words.specs.declared.mistakes.Wrong.{Wrong as Mistake};
 ghost use Rattle.std.specs.Prelude.{◌≡◌, Err, IfErr, IfOk, Ok, drop, map, string_bytes};
 
+mod beginnings;
 mod chart;
 mod derived;
 mod explain;
+mod faults;
+mod find;
 mod forms;
+mod json;
 mod mistakes;
 mod numbers;
 mod ranges;
@@ -18,15 +22,23 @@ mod reading;
 mod replay;
 mod scenario;
 mod schedule;
+mod shrink;
+mod state;
 mod why;
 
+pub use crate::beginnings::line_words;
 use crate::chart::chart_words;
 use crate::explain::explain_words;
+use crate::faults::faults_words;
+use crate::find::find_words;
+use crate::json::json_words;
 pub use crate::mistakes::Wrong;
 pub use crate::reading::asked_for;
 use crate::replay::replay_words;
 use crate::scenario::scenario_words;
 use crate::schedule::schedule_words;
+use crate::shrink::shrink_words;
+use crate::state::state_words;
 use crate::why::why_words;
 use am_names::Serial;
 use am_scenario_types::Form;
@@ -49,11 +61,24 @@ pub struct Seeds {
     pub to: u64,
 }
 
+/// Which states of a journal the words have.
+#[derive(Clone, Copy, PartialEq, Eq, Debug)]
+pub enum States {
+    /// The state at the journal's end.
+    End,
+    /// The state behind the entry in this line of the report.
+    Behind(u32),
+    /// What changed from the state behind one entry to that behind another.
+    Between(Lines),
+}
+
 /// What the words ask for.
 #[derive(Clone, Copy, PartialEq, Eq, Debug)]
 pub enum Asked {
     /// `explain step`, `explain run`: what is wrong with a scenario of this form or with its report, and what was due there.
     Explain(Form),
+    /// `explain step --front`: the same for a step script, and of a step that can't be made the journal that stands before it.
+    Front,
     /// `why step E.K`, `why run E.K`: what became of the K-th message of endpoint E in a report of a scenario of this
     /// form.
     Why {
@@ -87,13 +112,36 @@ pub enum Asked {
     Schedule(u64),
     /// `schedule SEED..SEED2`: a line for the run of each of these seeds, and how many distinct journals there were.
     Schedules(Seeds),
+    /// `json step`, `json run`: the journal of a report of a scenario of this form as lines of JSON.
+    Json(Form),
+    /// `state step`, `state run`, each with `LINE`, with `LINE LINE2` or with neither: states of the journal of a report of a
+    /// scenario of this form, or what changed.
+    State {
+        form: Form,
+        states: States,
+    },
+    /// `find A..B WORDS..`: the report of the least of these seeds that has a line which begins with these words.
+    Find(Seeds),
+    /// `find --not A..B WORDS..`: the report of the least of these seeds that has no such line.
+    FindWithout(Seeds),
+    /// `faults SEED PERCENT`: the scenario of a run with a plan that is drawn from the seed.
+    Faults {
+        seed: u64,
+        /// Of the first packets of each link, about how many in a hundred: 0 to 100.
+        percent: u8,
+    },
+    /// `shrink step WORDS..`, `shrink run WORDS..`: a scenario of this form with fewer lines, whose report has a line that
+    /// begins with these words; that of a run without turns.
+    Shrink(Form),
+    /// `shrink run --seed N WORDS..`: the same of the report of a run by this seed.
+    ShrinkSeeded(u64),
 }
 
 const ABOUT_INPUT: &str = "cat examples/first.am2 examples/first.out | bin/am2_lab why step 0.1";
 
 const INPUT: &str =
-    "explain, why, chart and replay read a scenario and, behind it, its report from standard input; \
-    scenario and schedule read a scenario alone:\n\n  \
+    "explain, why, chart, replay, json and state read a scenario and, behind it, its report from standard input; \
+    scenario, schedule, find, faults and shrink read a scenario alone:\n\n  \
     cat examples/first.am2 examples/first.out | bin/am2_lab why step 0.1\n  \
     bin/am2_lab scenario run < examples/run-withheld.am2";
 
@@ -109,7 +157,12 @@ fn all_words<'a>(alloc: Global) -> Result<Command<'a>, AllocError> {
     let command = command.subcommand(chart_words(alloc)?)?;
     let command = command.subcommand(scenario_words(alloc)?)?;
     let command = command.subcommand(replay_words(alloc)?)?;
-    command.subcommand(schedule_words(alloc)?)
+    let command = command.subcommand(schedule_words(alloc)?)?;
+    let command = command.subcommand(json_words(alloc)?)?;
+    let command = command.subcommand(state_words(alloc)?)?;
+    let command = command.subcommand(find_words(alloc)?)?;
+    let command = command.subcommand(faults_words(alloc)?)?;
+    command.subcommand(shrink_words(alloc)?)
 }
 
 // A sentence, and behind it a line that asks for something.

@@ -2,7 +2,12 @@
 
 use crate::chart::{CHART_EXAMPLE, chart_words};
 use crate::derived::{COUNT_EXAMPLE, MAKE_EXAMPLE, count_words, make_words};
+use crate::explain::{FRONT_EXAMPLE, explain_words};
+use crate::faults::{FAULTS_EXAMPLE, faults_words};
+use crate::find::{FIND_EXAMPLE, find_words};
 use crate::schedule::{SCHEDULE_EXAMPLE, schedule_words};
+use crate::shrink::{SHRINK_EXAMPLE, shrink_words};
+use crate::state::{STATE_EXAMPLE, state_words};
 use crate::why::{WHY_EXAMPLE, why_words};
 use crate::{ABOUT_INPUT, all_words};
 use clap::Command;
@@ -13,6 +18,8 @@ use std::alloc::{AllocError, Global};
 pub enum Wrong {
     /// They have none of the forms.
     Form,
+    /// `explain`: `--front` stands elsewhere than behind `explain step`.
+    Front,
     /// `why`: the last word is no serial of a message.
     Serial,
     /// `chart`: one line stands there, and not two.
@@ -37,6 +44,18 @@ pub enum Wrong {
     EmptyRange,
     /// `schedule`: a range of more than 100,000 seeds.
     LongRange,
+    /// `state`: a word is no number of a line.
+    StateLine,
+    /// `find`: the word is no range of seeds.
+    FindRange,
+    /// `find`: there are no words of a line, or one is empty or begins with two dashes.
+    FindLine,
+    /// `faults`: a word is no number that the command takes there.
+    Faults,
+    /// `shrink`: a seed for steps, or a word that is none.
+    ShrinkSeed,
+    /// `shrink`: there are no words of a line, or one is empty or begins with two dashes.
+    ShrinkLine,
 }
 
 impl Wrong {
@@ -44,6 +63,9 @@ impl Wrong {
     pub(crate) fn sentence(self) -> &'static str {
         match self {
             Wrong::Form => "the words have none of the forms that --help shows",
+            Wrong::Front => {
+                "--front stands behind explain step: a run has no step that can't happen"
+            }
             Wrong::Serial => {
                 "a message is E.K as the report prints it: 0.1 is the first that endpoint 0 accepted"
             }
@@ -72,6 +94,24 @@ impl Wrong {
                 "a range ends above the seed that it begins with: 1..5 has the seeds 1 to 4"
             }
             Wrong::LongRange => "a range has at most 100000 seeds",
+            Wrong::StateLine => {
+                "LINE and LINE2 are lines of the report: numbers up to 4294967295, with no zero in front"
+            }
+            Wrong::FindRange => {
+                "A..B are 1 to 100000 seeds, from A up to B, which isn't among them: 0..100 has the seeds 0 to 99"
+            }
+            Wrong::FindLine => {
+                "WORDS are those that a line of the report begins with, none of them empty or with -- in front; --not stands in front of A..B"
+            }
+            Wrong::Faults => {
+                "SEED is a number from 0 to 18446744073709551615 and PERCENT one from 0 to 100, with no zero in front"
+            }
+            Wrong::ShrinkSeed => {
+                "steps have no seed; that of a run is a number from 0 to 18446744073709551615, with no zero in front"
+            }
+            Wrong::ShrinkLine => {
+                "WORDS are those that a line of the report begins with, none of them empty or with -- in front; --seed N stands in front of them"
+            }
         }
     }
 
@@ -79,6 +119,7 @@ impl Wrong {
     pub(crate) fn example(self) -> &'static str {
         match self {
             Wrong::Form => ABOUT_INPUT,
+            Wrong::Front => FRONT_EXAMPLE,
             Wrong::Serial => WHY_EXAMPLE,
             Wrong::HalfPart | Wrong::Line => CHART_EXAMPLE,
             Wrong::Number => MAKE_EXAMPLE,
@@ -90,6 +131,10 @@ impl Wrong {
             | Wrong::RangeWithoutEnd
             | Wrong::EmptyRange
             | Wrong::LongRange => SCHEDULE_EXAMPLE,
+            Wrong::StateLine => STATE_EXAMPLE,
+            Wrong::FindRange | Wrong::FindLine => FIND_EXAMPLE,
+            Wrong::Faults => FAULTS_EXAMPLE,
+            Wrong::ShrinkSeed | Wrong::ShrinkLine => SHRINK_EXAMPLE,
         }
     }
 
@@ -97,6 +142,7 @@ impl Wrong {
     pub(crate) fn words<'a>(self, alloc: Global) -> Result<Command<'a>, AllocError> {
         match self {
             Wrong::Form => all_words(alloc),
+            Wrong::Front => explain_words(alloc)?.bin_name("am2_lab explain"),
             Wrong::Serial => why_words(alloc)?.bin_name("am2_lab why"),
             Wrong::HalfPart | Wrong::Line => chart_words(alloc)?.bin_name("am2_lab chart"),
             Wrong::Number => make_words(alloc)?.bin_name("am2_lab scenario make"),
@@ -108,6 +154,12 @@ impl Wrong {
             | Wrong::RangeWithoutEnd
             | Wrong::EmptyRange
             | Wrong::LongRange => schedule_words(alloc)?.bin_name("am2_lab schedule"),
+            Wrong::StateLine => state_words(alloc)?.bin_name("am2_lab state"),
+            Wrong::FindRange | Wrong::FindLine => find_words(alloc)?.bin_name("am2_lab find"),
+            Wrong::Faults => faults_words(alloc)?.bin_name("am2_lab faults"),
+            Wrong::ShrinkSeed | Wrong::ShrinkLine => shrink_words(alloc)?.bin_name(
+                "am2_lab shrink",
+            ),
         }
     }
 }

@@ -1,7 +1,7 @@
 //! The seeds that a word of `schedule` names.
 
-ghost use Rattle.am_lab_words.specs.Ranges.{IsInRange};
-ghost use Rattle.am_lab_words.specs.Words.{is_closed, numbers_of, points_of, range_of, schedule_of, seeds_of};
+ghost use Rattle.am_lab_words.specs.Ranges.{AreFewSeeds, IsInRange};
+ghost use Rattle.am_lab_words.specs.Words.{is_closed, numbers_of, points_of, range_of, schedule_of, seeds_in, seeds_of};
 ghost use Rattle.std.specs.Prelude.{◌≡◌, IfOk};
 
 use crate::numbers::printed_number;
@@ -10,23 +10,23 @@ use am_lexer::first_dot;
 
 // The seeds from one number up to another.
 #[tactic(auto, unfolding(crate::specs::Words::seeds_of))]
-fn seeds_of(from: u64, to: u64) -> Result<Asked, Wrong>
+fn seeds_of(from: u64, to: u64) -> Result<Seeds, Wrong>
     ensures exact { result ≡ seeds_of from to }
-    ensures in_range { IfOk result IsInRange }
+    ensures few { IfOk result AreFewSeeds }
 {
     if to <= from {
         Err(Wrong::EmptyRange)
     } else if 100_000 < to - from {
         Err(Wrong::LongRange)
     } else {
-        Ok(Asked::Schedules(Seeds { from, to }))
+        Ok(Seeds { from, to })
     }
 }
 
 // The seeds between what two words spell.
-fn numbers_of(from: Option<u64>, to: Option<u64>) -> Result<Asked, Wrong>
+fn numbers_of(from: Option<u64>, to: Option<u64>) -> Result<Seeds, Wrong>
     ensures exact { result ≡ numbers_of from to }
-    ensures in_range { IfOk result IsInRange }
+    ensures few { IfOk result AreFewSeeds }
 {
     match (from, to) {
         (Some(from), Some(to)) => seeds_of(from, to),
@@ -42,9 +42,9 @@ fn is_closed(to: &[u8]) -> bool
 
 // The seeds of a range, by what stands before its two points and behind them.
 #[tactic(auto, unfolding(crate::specs::Words::range_of))]
-fn range_of(from: &[u8], to: &[u8]) -> Result<Asked, Wrong>
+fn range_of(from: &[u8], to: &[u8]) -> Result<Seeds, Wrong>
     ensures exact { result ≡ range_of from.now to.now }
-    ensures in_range { IfOk result IsInRange }
+    ensures few { IfOk result AreFewSeeds }
 {
     match (from, to) {
         ([], _) => Err(Wrong::RangeWithoutStart),
@@ -61,13 +61,25 @@ fn range_of(from: &[u8], to: &[u8]) -> Result<Asked, Wrong>
 
 // The seeds of a range, by what stands before its first point and behind it.
 #[tactic(auto, unfolding(crate::specs::Words::points_of))]
-fn points_of(from: &[u8], rest: &[u8]) -> Result<Asked, Wrong>
+fn points_of(from: &[u8], rest: &[u8]) -> Result<Seeds, Wrong>
     ensures exact { result ≡ points_of from.now rest.now }
-    ensures in_range { IfOk result IsInRange }
+    ensures few { IfOk result AreFewSeeds }
 {
     match rest {
         [b'.', to @ ..] => range_of(from, to),
         _ => Err(Wrong::Seed),
+    }
+}
+
+/// The seeds of a range that a word names.
+#[tactic(auto, unfolding(crate::specs::Words::seeds_in))]
+pub(crate) fn seeds_in(word: &[u8]) -> Result<Seeds, Wrong>
+    ensures exact { result ≡ seeds_in word.now }
+    ensures few { IfOk result AreFewSeeds }
+{
+    match first_dot(word) {
+        Some(at) => points_of(&word[..at], &word[at + 1..]),
+        None => Err(Wrong::Seed),
     }
 }
 
@@ -80,8 +92,8 @@ pub(crate) fn schedule_of(word: &[u8]) -> Result<Asked, Wrong>
     if let Some(seed) = printed_number(word) {
         return Ok(Asked::Schedule(seed));
     }
-    match first_dot(word) {
-        Some(at) => points_of(&word[..at], &word[at + 1..]),
-        None => Err(Wrong::Seed),
+    match seeds_in(word) {
+        Ok(seeds) => Ok(Asked::Schedules(seeds)),
+        Err(wrong) => Err(wrong),
     }
 }

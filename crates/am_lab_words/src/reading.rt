@@ -1,25 +1,28 @@
 //! What the words ask for, read by how many there are.
 
 ghost use Rattle.am_lab_words.specs.Ranges.{IsInRange};
-ghost use Rattle.am_lab_words.specs.Words.{asked_for, chart_half, chart_lines, chart_part, chart_whole, count_of, explain_in, form_of, lines_by, made_of, make_of, of_five_words, of_four_words, of_three_words, of_two_words, replay_of, round_of, rounds_in, scenario_in, scenario_of, serial_by, serial_in, serial_of, why_in, why_message};
+ghost use Rattle.am_lab_words.specs.Words.{asked_for, chart_half, chart_lines, chart_part, chart_whole, count_of, explain_in, front_of, json_in, lines_by, made_of, make_of, of_command, of_five_words, of_four_words, of_three_words, of_two_words, of_words, replay_of, round_of, rounds_in, scenario_in, scenario_of, serial_by, serial_in, serial_of, why_in, why_message};
 ghost use Rattle.std.specs.Prelude.{◌≡◌, IfOk, map, string_bytes};
 
+use crate::faults::faults_of;
+use crate::find::find_of;
+use crate::forms::form_of;
 use crate::numbers::printed_number;
 use crate::ranges::schedule_of;
+use crate::shrink::shrink_of;
+use crate::state::{state_at_end, state_behind, state_between};
 use crate::{Asked, Lines, Wrong};
 use am_lexer::first_dot;
 use am_names::{EndpointId, Serial};
 use am_scenario_types::Form;
 
-// The form that a word names.
-#[tactic(auto, unfolding(crate::specs::Words::form_of))]
-fn form_of(word: &str) -> Option<Form>
-    ensures { result ≡ form_of word.now }
+fn json_in(form: Option<Form>) -> Result<Asked, Wrong>
+    ensures exact { result ≡ json_in form }
+    ensures in_range { IfOk result IsInRange }
 {
-    match word {
-        "step" => Some(Form::Step),
-        "run" => Some(Form::Run),
-        _ => None,
+    match form {
+        Some(form) => Ok(Asked::Json(form)),
+        None => Err(Wrong::Form),
     }
 }
 
@@ -30,6 +33,19 @@ fn explain_in(form: Option<Form>) -> Result<Asked, Wrong>
     match form {
         Some(form) => Ok(Asked::Explain(form)),
         None => Err(Wrong::Form),
+    }
+}
+
+// The journal before a step is asked for behind `explain step` alone.
+#[tactic(auto, unfolding(crate::specs::Words::front_of))]
+fn front_of(word: &str, option: &str) -> Result<Asked, Wrong>
+    ensures exact { result ≡ front_of word.now option.now }
+    ensures in_range { IfOk result IsInRange }
+{
+    if word == "step" && option == "--front" {
+        Ok(Asked::Front)
+    } else {
+        Err(Wrong::Front)
     }
 }
 
@@ -261,6 +277,8 @@ fn of_two_words(command: &str, word: &str) -> Result<Asked, Wrong>
         "scenario" => scenario_of(word),
         "replay" => replay_of(word),
         "schedule" => schedule_of(word.as_bytes()),
+        "json" => json_in(form_of(word)),
+        "state" => state_at_end(form_of(word)),
         _ => Err(Wrong::Form),
     }
 }
@@ -271,9 +289,12 @@ fn of_three_words(command: &str, word: &str, other: &str) -> Result<Asked, Wrong
     ensures in_range { IfOk result IsInRange }
 {
     match command {
+        "explain" => front_of(word, other),
         "why" => why_in(form_of(word), other),
         "chart" => chart_half(form_of(word)),
         "scenario" => make_of(word, other),
+        "state" => state_behind(form_of(word), other),
+        "faults" => faults_of(word, other),
         _ => Err(Wrong::Form),
     }
 }
@@ -283,10 +304,10 @@ fn of_four_words(command: &str, word: &str, from: &str, to: &str) -> Result<Aske
     ensures exact { result ≡ of_four_words command.now word.now from.now to.now }
     ensures in_range { IfOk result IsInRange }
 {
-    if command == "chart" {
-        chart_part(form_of(word), from, to)
-    } else {
-        Err(Wrong::Form)
+    match command {
+        "chart" => chart_part(form_of(word), from, to),
+        "state" => state_between(form_of(word), from, to),
+        _ => Err(Wrong::Form),
     }
 }
 
@@ -308,6 +329,39 @@ fn of_five_words(
     }
 }
 
+// What a command asks for whose words are fixed in number.
+#[tactic(auto, unfolding(crate::specs::Words::of_words))]
+fn of_words(command: &str, words: &[String]) -> Result<Asked, Wrong>
+    ensures exact { result ≡ of_words command.now (map string_bytes words.now) }
+    ensures in_range { IfOk result IsInRange }
+{
+    match words {
+        [word] => of_two_words(command, word.as_str()),
+        [word, other] => of_three_words(command, word.as_str(), other.as_str()),
+        [word, from, to] => of_four_words(command, word.as_str(), from.as_str(), to.as_str()),
+        [word, nodes, turns, number] => of_five_words(
+            command,
+            word.as_str(),
+            nodes.as_str(),
+            turns.as_str(),
+            number.as_str(),
+        ),
+        _ => Err(Wrong::Form),
+    }
+}
+
+#[tactic(auto, unfolding(crate::specs::Words::of_command))]
+fn of_command(command: &str, words: &[String]) -> Result<Asked, Wrong>
+    ensures exact { result ≡ of_command command.now (map string_bytes words.now) }
+    ensures in_range { IfOk result IsInRange }
+{
+    match command {
+        "find" => find_of(words),
+        "shrink" => shrink_of(words),
+        _ => of_words(command, words),
+    }
+}
+
 /// What the words after the program's name ask for; else what is wrong with them. Numbers are in decimal digits without a
 /// sign or a leading zero, and are ones that the command takes.
 #[tactic(auto, unfolding(crate::specs::Words::asked_for))]
@@ -316,21 +370,7 @@ pub fn asked_for(words: &[String]) -> Result<Asked, Wrong>
     ensures in_range { IfOk result IsInRange }
 {
     match words {
-        [command, word] => of_two_words(command.as_str(), word.as_str()),
-        [command, word, other] => of_three_words(command.as_str(), word.as_str(), other.as_str()),
-        [command, word, from, to] => of_four_words(
-            command.as_str(),
-            word.as_str(),
-            from.as_str(),
-            to.as_str(),
-        ),
-        [command, word, nodes, turns, number] => of_five_words(
-            command.as_str(),
-            word.as_str(),
-            nodes.as_str(),
-            turns.as_str(),
-            number.as_str(),
-        ),
-        _ => Err(Wrong::Form),
+        [command, rest @ ..] => of_command(command.as_str(), rest),
+        [] => Err(Wrong::Form),
     }
 }

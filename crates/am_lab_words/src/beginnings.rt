@@ -1,0 +1,64 @@
+//! The words that a line of a report is to begin with.
+
+ghost use Rattle.am_lab_words.specs.Words.{are_line_words, is_line_word, line_words, words_before};
+ghost use Rattle.std.specs.Global.{Global};
+ghost use Rattle.std.specs.List.{list_all};
+ghost use Rattle.std.specs.Prelude.{◌≡◌, String as Text, drop, map, string_bytes};
+
+use crate::Asked;
+
+#[tactic(auto, unfolding(crate::specs::Words::is_line_word))]
+fn is_line_word(word: &str) -> bool
+    ensures { result ≡ is_line_word word.now }
+{
+    !word.is_empty() && !word.starts_with("--")
+}
+
+fn each_is_line_word(words: &[String]) -> bool
+    ensures { result ≡ list_all (λ (word : Text Global). is_line_word (string_bytes word)) words.now }
+{
+    words.iter().all(|word| is_line_word(word.as_str()))
+}
+
+// The same, said of the bytes of the words.
+fn all_are_line_words(words: &[String]) -> bool
+    ensures { result ≡ list_all is_line_word (map string_bytes words.now) }
+{
+    each_is_line_word(words)
+}
+
+/// Whether a line may be asked for by these words.
+#[tactic(auto, unfolding(crate::specs::Words::are_line_words))]
+pub(crate) fn are_line_words(words: &[String]) -> bool
+    ensures { result ≡ are_line_words (map string_bytes words.now) }
+{
+    match words {
+        [] => false,
+        _ => all_are_line_words(words),
+    }
+}
+
+// How many words stand in front of those of the line.
+fn words_before(asked: Asked) -> usize
+    ensures { result ≡ words_before asked }
+{
+    match asked {
+        Asked::Find(_) | Asked::Shrink(_) => 2,
+        Asked::FindWithout(_) => 3,
+        Asked::ShrinkSeeded(_) => 4,
+        _ => 0,
+    }
+}
+
+/// Of the words behind the program's name, which ask for this, those that a line of a report is to begin with. They are of use for
+/// `find` and `shrink` alone.
+pub fn line_words(asked: Asked, words: &[String]) -> &[String]
+    ensures { map string_bytes result.now ≡ line_words asked (map string_bytes words.now) }
+{
+    let before = words_before(asked);
+    if before <= words.len() {
+        &words[before..]
+    } else {
+        &[]
+    }
+}
