@@ -6,7 +6,7 @@ ghost use Rattle.std.specs.Prelude.{IfOk};
 
 use am_io::{StdSink, StdSource};
 use am_lab::{answer, answer_no_memory};
-use am_lab_words::{Asked, read_words, words_are_no_text};
+use am_lab_words::{Asked, line_words, read_words, words_are_no_text};
 use clap::Error;
 use clap::error::ErrorKind;
 use std::alloc::{AllocError, Global};
@@ -31,12 +31,32 @@ fn words_of(alloc: Global, read: io::Result<Args>) -> Result<Option<Vec<String>>
     }
 }
 
+// What is asked for, and the words that a line of a report is to begin with.
+#[derive(Drop)]
+struct Question {
+    asked: Asked,
+    given: String,
+}
+
+// Of the words, which ask for this, those that a line is to begin with, with a space between them.
+fn given_by(alloc: Global, asked: Asked, words: &[String]) -> Result<String, AllocError> {
+    let rest = match words {
+        [_, rest @ ..] => rest,
+        [] => words,
+    };
+    line_words(asked, rest).join(alloc, " ")
+}
+
 // What the words ask for, or clap's text about them.
-fn asked_by(alloc: Global, words: Option<Vec<String>>) -> Result<Asked, Error>
-    ensures { IfOk result IsInRange }
+fn asked_by(alloc: Global, words: Option<Vec<String>>) -> Result<Question, Error>
+    ensures { IfOk result (λ question. IsInRange question.asked) }
 {
     match words {
-        Some(words) => read_words(alloc, &words),
+        Some(words) => {
+            let asked = read_words(alloc, &words)?;
+            let given = given_by(alloc, asked, &words)?;
+            Ok(Question { asked, given })
+        }
         None => Err(words_are_no_text(alloc)),
     }
 }
@@ -57,9 +77,9 @@ fn main(rt: HostRuntime) -> ExitCode {
         return ExitCode::from(answer_no_memory(&mut sink));
     };
     match asked_by(alloc, words) {
-        Ok(asked) => {
+        Ok(Question { asked, given }) => {
             let mut source = StdSource::new(rt.stdin());
-            ExitCode::from(answer(alloc, asked, &mut source, &mut sink))
+            ExitCode::from(answer(alloc, asked, given.as_bytes(), &mut source, &mut sink))
         }
         Err(told) if told.kind() == ErrorKind::OutOfMemory => {
             ExitCode::from(answer_no_memory(&mut sink))

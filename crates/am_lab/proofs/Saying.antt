@@ -2,13 +2,14 @@
 use Rattle.std.proofs.Common.{◌≡◌, ◌≢◌, inl, ℕ, List, refl}
 use Rattle.am_check.specs.Exact.{IsChecked}
 use Rattle.am_check.specs.Laws.Laws.{YesIsTrue}
-use Rattle.am_lab.specs.Answers.{Explains, TellsWhy}
+use Rattle.am_lab.specs.Answers.{TellsWhy}
+use Rattle.am_lab.specs.Explains.{ExplainsReport}
 use Rattle.am_main_check.specs.Checks.{CheckAnswers}
 use Rattle.am_main_lines.specs.Lines.{Answer}
 use Rattle.am_names.specs.declared.Serial.{Serial}
 use Rattle.am_scenario_types.specs.declared.parts.Form.{Form}
 
-pub explains_other : (form : Form) (bytes : List ℕ) (checked : Answer) → CheckAnswers form bytes checked → checked.status ≢ 10 → Explains form bytes checked
+pub explains_other : (form : Form) (bytes : List ℕ) (checked : Answer) → CheckAnswers form bytes checked → checked.status ≢ 10 → ExplainsReport form bytes checked
 explains_other form bytes checked checks other = record { checked = checked; checks = checks; more = inl (other, refl) }
 
 pub tells_other : (form : Form) (bytes : List ℕ) (serial : Serial) (checked : Answer) → CheckAnswers form bytes checked → checked.status ≢ 0 →

@@ -1,5 +1,6 @@
 -- The answer that a reply of the code stands for.
-use Rattle.am_main_lines.specs.Offers.{no_memory, read_fault, too_long}
+use Rattle.am_main_lines.specs.Offers.{no_memory, read_fault}
+use Rattle.am_lab.specs.Answers.{too_long}
 use Rattle.am_lab.specs.declared.replies.Reply.{Reply}
 use Rattle.am_lab.specs.declared.replies.Reply.TheVariants as Replies
 use Rattle.am_main_lines.specs.Lines.{Answer, answer_in}

@@ -1,80 +1,89 @@
 //! The answers to a text that was read.
 
-ghost use Rattle.am_check.specs.Verdict.{Checks};
-ghost use Rattle.am_check.specs.declared.faults.CheckStop.TheVariants as Stops;
 ghost use Rattle.am_lab.specs.Answers as answers;
-ghost use Rattle.am_lab.specs.Answers.{AnswersTo, Explains, TellsWhy};
-ghost use Rattle.am_lab_words.specs.Ranges.{IsInRange};
+ghost use Rattle.am_lab.specs.Answers.{AnswersText, AnswersTo, TellsWhy, no_endpoint};
+ghost use Rattle.am_lab_schedules.specs.Finds.{FindAnswers};
+ghost use Rattle.am_lab_words.specs.Ranges.{AreFewSeeds, IsInRange};
+ghost use Rattle.am_lab_reasons.specs.Reasons.{IsDeclared};
 ghost use Rattle.am_main_check.specs.Checks.{CheckAnswers};
 ghost use Rattle.am_main_lines.specs.Lines.{answer_in};
 ghost use Rattle.am_main_run.specs.Runs.{RunAnswers};
 ghost use Rattle.am_scenario.specs.Grammar.{grammar};
 ghost use Rattle.am_scenario_types.specs.declared.parts.Form.TheVariants as Forms;
-ghost use Rattle.std.specs.Prelude.{◌≡◌, ◌<◌, ◌^◌, ◌++◌, Err, IfOk, length};
+ghost use Rattle.std.specs.Prelude.{◌≡◌, ◌<◌, ◌^◌, IfOk, false, length, true};
 
+use crate::cuts::{cut_report, full_line_of};
+use crate::explains::explained;
 use am_check::laws::yes_is_true;
-use am_check::{CheckStop, CheckWhat, check};
 use am_lab_drawings::chart_output;
 use am_lab_drawings::view::Part;
-use am_lab_reasons::due::due;
-use am_lab_reasons::why;
-use am_lab_scenarios::derived::{expanded_scenario, made_scenario, round_scenario};
+use am_lab_page::json::json_output;
+use am_lab_reasons::{is_declared, why};
+use am_lab_scenarios::derived::{
+    expanded_scenario, faulty_scenario, made_scenario, round_scenario,
+};
 use am_lab_scenarios::texts::{replay_output, scenario_output};
 use am_lab_schedules::one_seed::schedule_output;
-use am_lab_schedules::schedules_output;
-use am_lab_words::{Asked, Lines};
+use am_lab_schedules::{Wanted, find_output, schedules_output};
+use am_lab_shrink::{Making, shrink_output};
+use am_lab_state::{StateLines, state_output};
+use am_lab_words::{Asked, Lines, Seeds, States};
 use am_main_check::check_output;
 use am_main_lines::Output;
-use am_names::{NoMemory, Serial};
+use am_names::{EndpointId, NoMemory, Serial};
+use am_office_text::{put_line, small};
 use am_scenario::Form;
 use std::alloc::{AllocError, Global};
 
-// An answer with more text behind it.
-fn followed(mut output: Output, more: &[u8]) -> Result<Output, AllocError>
-    ensures { IfOk result (λ o. answer_in o ≡ record { status = output.status; text = output.text.items ++ more.now }) }
+// That no line declares the endpoint of a message.
+#[tactic(auto, unfolding(crate::specs::Answers::no_endpoint))]
+fn no_endpoint(alloc: Global, end: EndpointId) -> Result<Output, AllocError>
+    ensures { IfOk result (λ o. answer_in o ≡ no_endpoint end) }
 {
-    output.text.extend_from_slice(more)?;
-    Ok(output)
+    let mut text = Vec::new(alloc);
+    put_line(&mut text, "no endpoint", &[small(end.0)])?;
+    Ok(Output { status: 12, text })
 }
 
-// What `check` answers to a report that has a fault, and behind it what was due there.
-fn with_due(
+// That no line declares the endpoint of a message of a report to which `check` says yes.
+fn endpoint_lacking(
     alloc: Global,
     form: Form,
     bytes: &[u8],
-    line: u32,
-    what: CheckWhat,
-    output: Output,
+    serial: Serial,
+    checked: &Output,
 ) -> Result<Output, NoMemory>
-    requires few { length bytes.now < 2 ^ 31 }
-    requires stopped { Checks form bytes.now (Err (Stops.Fault line what)) }
-    requires checks { CheckAnswers form bytes.now (answer_in output) }
-    ensures { IfOk result (λ o. Explains form bytes.now (answer_in o)) }
+    requires checks { CheckAnswers form bytes.now (answer_in checked.now) }
+    requires right { checked.now.status ≡ 0 }
+    requires undeclared { IsDeclared form bytes.now serial.source false }
+    ensures { IfOk result (λ o. TellsWhy form bytes.now serial (answer_in o)) }
 {
-    let more = due(alloc, form, bytes, line, what)?;
-    match followed(output, &more) {
-        Ok(told) => Ok(told),
+    match no_endpoint(alloc, serial.source) {
+        Ok(lacking) => Ok(lacking),
         Err(_) => Err(NoMemory),
     }
 }
 
-// What `check` answers, and behind a fault of the report what was due there.
-#[tactic(auto, using(crate::proofs::Saying::explains_other))]
-fn explained(alloc: Global, form: Form, bytes: &[u8]) -> Result<Output, NoMemory>
-    requires { length bytes.now < 2 ^ 31 }
-    ensures { IfOk result (λ o. Explains form bytes.now (answer_in o)) }
+// What became of a message of a report to which `check` says yes, and whose scenario declares the message's endpoint.
+fn message_told(
+    alloc: Global,
+    form: Form,
+    bytes: &[u8],
+    serial: Serial,
+    checked: &Output,
+) -> Result<Output, NoMemory>
+    requires few { length bytes.now < 2 ^ 31 }
+    requires checks { CheckAnswers form bytes.now (answer_in checked.now) }
+    requires right { checked.now.status ≡ 0 }
+    requires declared { IsDeclared form bytes.now serial.source true }
+    ensures { IfOk result (λ o. TellsWhy form bytes.now serial (answer_in o)) }
 {
-    let output = check_output(alloc, form, bytes)?;
-    if output.status != 10 {
-        return Ok(output);
-    }
-    match check(alloc, form, bytes) {
-        Err(CheckStop::Fault { line, what }) => with_due(alloc, form, bytes, line, what, output),
-        _ => Err(NoMemory),
-    }
+    yes_is_true();
+    let text = why(alloc, form, bytes, serial)?;
+    Ok(Output { status: 0, text })
 }
 
-// What became of a message of a report to which `check` says yes.
+// What is told of a message of a report to which `check` says yes.
 fn message_output(
     alloc: Global,
     form: Form,
@@ -87,9 +96,12 @@ fn message_output(
     requires right { checked.now.status ≡ 0 }
     ensures { IfOk result (λ o. TellsWhy form bytes.now serial (answer_in o)) }
 {
-    yes_is_true();
-    let text = why(alloc, form, bytes, serial)?;
-    Ok(Output { status: 0, text })
+    let declared = is_declared(alloc, form, bytes, serial.source)?;
+    if declared {
+        message_told(alloc, form, bytes, serial, checked)
+    } else {
+        endpoint_lacking(alloc, form, bytes, serial, checked)
+    }
 }
 
 // What `check` answers, but of a right report what became of a message.
@@ -128,14 +140,73 @@ fn part_of(lines: Option<Lines>) -> Option<Part>
     }
 }
 
-/// The answer of a command to a text.
-pub(crate) fn answered(alloc: Global, asked: Asked, bytes: &[u8]) -> Result<Output, NoMemory>
+// The report of the least of these seeds that has a line which begins with these words, or that has none.
+fn found(
+    alloc: Global,
+    bytes: &[u8],
+    seeds: Seeds,
+    given: &[u8],
+    wanted: Wanted,
+) -> Result<Output, NoMemory>
+    requires { AreFewSeeds seeds }
+    ensures { IfOk result (λ o. FindAnswers (grammar Forms.Run bytes.now) wanted given.now seeds.from seeds.to (answer_in o)) }
+{
+    Ok(find_output(alloc, bytes, seeds.from, seeds.to, given, wanted)?)
+}
+
+// The lines whose states the words have.
+fn lines_of(states: States) -> StateLines
+    ensures { result ≡ answers.lines_of_states states }
+{
+    match states {
+        States::End => StateLines::End,
+        States::Behind(line) => StateLines::Behind(line),
+        States::Between(lines) => StateLines::Between(lines.from, lines.to),
+    }
+}
+
+// How the reports are made among which `shrink` looks for a line.
+fn making_of(form: Form) -> Making
+    ensures { result ≡ answers.making_of form }
+{
+    match form {
+        Form::Step => Making::Steps,
+        Form::Run => Making::Drain,
+    }
+}
+
+/// The answer of a command to a text, where a line that is asked for begins with the given words.
+pub(crate) fn answered(
+    alloc: Global,
+    asked: Asked,
+    given: &[u8],
+    bytes: &[u8],
+) -> Result<Output, NoMemory>
     requires few { length bytes.now < 2 ^ 31 }
     requires in_range { IsInRange asked }
-    ensures { IfOk result (λ o. AnswersTo asked bytes.now (answer_in o)) }
+    ensures { IfOk result (λ o. AnswersText asked given.now bytes.now (answer_in o)) }
+{
+    match full_line_of(asked, bytes) {
+        Some(line) => Ok(cut_report(alloc, line)?),
+        None => answered_uncut(alloc, asked, given, bytes),
+    }
+}
+
+// The answer of a command to a text with no line of a full log in front of a report.
+#[tactic(auto, unfolding(crate::specs::Answers::AnswersTo))]
+fn answered_uncut(
+    alloc: Global,
+    asked: Asked,
+    given: &[u8],
+    bytes: &[u8],
+) -> Result<Output, NoMemory>
+    requires few { length bytes.now < 2 ^ 31 }
+    requires in_range { IsInRange asked }
+    ensures { IfOk result (λ o. AnswersTo asked given.now bytes.now (answer_in o)) }
 {
     match asked {
-        Asked::Explain(form) => explained(alloc, form, bytes),
+        Asked::Explain(form) => explained(alloc, false, form, bytes),
+        Asked::Front => explained(alloc, true, Form::Step, bytes),
         Asked::Why { form, serial } => told_why(alloc, form, bytes, serial),
         Asked::Chart { form, part } => chart_output(alloc, form, bytes, part_of(part)),
         Asked::Scenario(form) => scenario_output(alloc, form, bytes),
@@ -149,5 +220,12 @@ pub(crate) fn answered(alloc: Global, asked: Asked, bytes: &[u8]) -> Result<Outp
         Asked::Replay => replay_output(alloc, bytes),
         Asked::Schedule(seed) => scheduled(alloc, bytes, seed),
         Asked::Schedules(seeds) => schedules_output(alloc, bytes, seeds.from, seeds.to),
+        Asked::Json(form) => json_output(alloc, form, bytes),
+        Asked::State { form, states } => state_output(alloc, form, bytes, lines_of(states)),
+        Asked::Find(seeds) => found(alloc, bytes, seeds, given, Wanted::WithLine),
+        Asked::FindWithout(seeds) => found(alloc, bytes, seeds, given, Wanted::WithoutLine),
+        Asked::Faults { seed, percent } => faulty_scenario(alloc, seed, percent, bytes),
+        Asked::Shrink(form) => shrink_output(alloc, making_of(form), given, bytes),
+        Asked::ShrinkSeeded(seed) => shrink_output(alloc, Making::Seed(seed), given, bytes),
     }
 }

@@ -2,6 +2,8 @@
 #![tactic(auto)]
 
 mod answers;
+mod cuts;
+mod explains;
 mod replies;
 mod top;
 

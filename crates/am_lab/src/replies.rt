@@ -1,7 +1,7 @@
 //! What is answered: the source is read here.
 
 ghost use Rattle.am_io.specs.Whole.{TakesAtMost};
-ghost use Rattle.am_lab.specs.Answers.{AnswersTo, IsDue, IsDueToText, reads_text};
+ghost use Rattle.am_lab.specs.Answers.{AnswersText, IsDue, IsDueToText, reads_text};
 ghost use Rattle.am_main_lines.specs.Offers.{no_memory};
 ghost use Rattle.am_lab.specs.Replies.{answer_of};
 ghost use Rattle.am_lab_words.specs.Ranges.{IsInRange};
@@ -42,19 +42,19 @@ impl Reply {
         match self {
             Reply::Output(output) => &output.text,
             Reply::ReadFault => b"read fault\n",
-            Reply::TooLong => b"input too long\n",
+            Reply::TooLong => b"input too long: more than 16777216 bytes\n",
             Reply::NoMemory => b"no memory\n",
         }
     }
 }
 
 // The answer to the bytes, if there is memory for it.
-fn answer_or_none(alloc: Global, asked: Asked, bytes: &[u8]) -> Reply
+fn answer_or_none(alloc: Global, asked: Asked, given: &[u8], bytes: &[u8]) -> Reply
     requires few { length bytes.now < 2 ^ 31 }
     requires in_range { IsInRange asked }
-    ensures { (answer_of result ≡ no_memory) ⊎ AnswersTo asked bytes.now (answer_of result) }
+    ensures { (answer_of result ≡ no_memory) ⊎ AnswersText asked given.now bytes.now (answer_of result) }
 {
-    match answered(alloc, asked, bytes) {
+    match answered(alloc, asked, given, bytes) {
         Ok(output) => Reply::Output(output),
         Err(_) => Reply::NoMemory,
     }
@@ -62,14 +62,14 @@ fn answer_or_none(alloc: Global, asked: Asked, bytes: &[u8]) -> Reply
 
 // Reads the source to its end.
 #[tactic(auto, using(crate::proofs::Due::due_found, crate::proofs::Due::due_read_fault, crate::proofs::Due::due_too_long, crate::proofs::Due::due_no_memory))]
-fn reply_to_text<S: Source>(alloc: Global, asked: Asked, source: &mut S) -> Reply
+fn reply_to_text<S: Source>(alloc: Global, asked: Asked, given: &[u8], source: &mut S) -> Reply
     requires fresh { S.has_ended source.old ≡ false }
     requires in_range { IsInRange asked }
-    ensures due { IsDueToText asked (S.left source.old) (S.count source.old) (S.count source.new) (answer_of result) }
+    ensures due { IsDueToText asked given.now (S.left source.old) (S.count source.old) (S.count source.new) (answer_of result) }
     ensures took { TakesAtMost 16777217 (S.left source.old) (S.left source.new) }
 {
     match take_all(alloc, source) {
-        Ok(bytes) => answer_or_none(alloc, asked, &bytes),
+        Ok(bytes) => answer_or_none(alloc, asked, given, &bytes),
         Err(TakeFault::Failed) => Reply::ReadFault,
         Err(TakeFault::TooLong) => Reply::TooLong,
         Err(TakeFault::NoMemory) => Reply::NoMemory,
@@ -88,16 +88,21 @@ fn reads_text(asked: Asked) -> bool
 
 /// What is answered to what was asked for, and to all that the source has left, if that is read.
 #[tactic(auto, using(am_io::proofs::Parts::took_none, crate::proofs::Due::due_to_text, crate::proofs::Due::due_to_number))]
-pub(crate) fn reply_to<S: Source>(alloc: Global, asked: Asked, source: &mut S) -> Reply
+pub(crate) fn reply_to<S: Source>(
+    alloc: Global,
+    asked: Asked,
+    given: &[u8],
+    source: &mut S,
+) -> Reply
     requires fresh { S.has_ended source.old ≡ false }
     requires in_range { IsInRange asked }
-    ensures due { IsDue asked (S.left source.old) (S.count source.old) (S.count source.new) (answer_of result) }
+    ensures due { IsDue asked given.now (S.left source.old) (S.count source.old) (S.count source.new) (answer_of result) }
     ensures unread { reads_text asked ≡ false → source.new ≡ source.old }
     ensures took { TakesAtMost 16777217 (S.left source.old) (S.left source.new) }
 {
     if reads_text(asked) {
-        reply_to_text(alloc, asked, source)
+        reply_to_text(alloc, asked, given, source)
     } else {
-        answer_or_none(alloc, asked, &[])
+        answer_or_none(alloc, asked, given, &[])
     }
 }

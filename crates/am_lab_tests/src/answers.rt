@@ -1,6 +1,8 @@
+//! What the program answers to words and a text.
+
 use am_io::{MemorySink, MemorySource};
 use am_lab::answer;
-use am_lab_words::read_words;
+use am_lab_words::{line_words, read_words};
 use std::alloc::{AllocError, Global};
 
 /// What the program answered: its status, and what the sink holds.
@@ -38,7 +40,10 @@ pub fn answer_to(alloc: Global, line: &str, text: Vec<u8>) -> Result<Answer, All
     let mut from = MemorySource::new(text, 4096, Vec::new(alloc));
     let mut to = MemorySink::new(alloc, 4096, Vec::new(alloc));
     let status = match read_words(alloc, &words) {
-        Ok(asked) => answer(alloc, asked, &mut from, &mut to),
+        Ok(asked) => {
+            let given = line_words(asked, &words[1..]).join(alloc, " ")?;
+            answer(alloc, asked, given.as_bytes(), &mut from, &mut to)
+        }
         Err(_) => 2,
     };
     Ok(Answer {

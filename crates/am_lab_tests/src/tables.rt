@@ -45,7 +45,7 @@ const SEGMENTS: &str =
     "am2 1\nnetwork packet\nnodes 1\nendpoint 0 0 5\nsegment 0 1 8\nthread 0 0\nt0 serve 0 2\n";
 
 /// The words, a scenario and its report or another text, and the status and the text that are answered.
-pub const TOLD: [(&str, &str, &str, u8, &str); 17] = [
+pub const TOLD: [(&str, &str, &str, u8, &str); 24] = [
     ("am2_lab explain step", PATH, REPORT, 0, "check ok\n"),
     (
         "am2_lab explain step",
@@ -73,7 +73,46 @@ pub const TOLD: [(&str, &str, &str, u8, &str); 17] = [
         "am2 1\nnodes 0\n",
         "",
         3,
-        "refused line 2 out-of-range\n",
+        "refused line 2 out-of-range\n  nodes 0\n        ^\nmay stand there: numbers from 1 to 16\n",
+    ),
+    (
+        "am2_lab explain run",
+        PATH,
+        "",
+        3,
+        "refused line 2 out-of-range\n  network direct\n          ^\nmay stand there: packet\n\
+        step reads on there: the text may be a step script\n",
+    ),
+    (
+        "am2_lab explain step",
+        PATH,
+        "",
+        10,
+        "check line 1 form\nno report behind the scenario\n",
+    ),
+    (
+        "am2_lab explain step",
+        PATH,
+        "x carry 0\n",
+        3,
+        "refused line 11 not-enabled no-message\n  x carry 0\n  ^\nfound endpoint 0 node 0 direct\n",
+    ),
+    (
+        "am2_lab explain step --front",
+        PATH,
+        "x carry 0\n",
+        3,
+        "refused line 11 not-enabled no-message\n  x carry 0\n  ^\nfound endpoint 0 node 0 direct\n\
+        x handler 1 1 note -> ok\nx map 0 0 1 7 1 -> ok\nx request 0 0 1 10 20 30 40 -> ok 0.1\n\
+        x carry 0 -> accepted 0.1\nx poll 1 -> ran 0.1 1 sends 1.1\n",
+    ),
+    (
+        "am2_lab explain step",
+        "",
+        REPORT,
+        3,
+        "refused line 1 missing\nthe text ends there: each scenario has an am2 line, a network line and a nodes line\n\
+        there is no scenario: the text is empty, or begins with a report\n",
     ),
     (
         "am2_lab why step 0.1",
@@ -91,12 +130,20 @@ pub const TOLD: [(&str, &str, &str, u8, &str); 17] = [
         "line 7 x poll 1 -> ran 0.1 1 sends 1.1\n\
         message 1.1 pending: nothing came of it before the end of the journal\n",
     ),
+    ("am2_lab why step 9.1", PATH, REPORT, 12, "no endpoint 9\n"),
     (
-        "am2_lab why step 9.1",
+        "am2_lab why step 0.2",
         PATH,
         REPORT,
         0,
-        "message 9.1 was never accepted\n",
+        "message 0.2 was never accepted\n",
+    ),
+    (
+        "am2_lab why step 0.1",
+        PATH,
+        "log full e0\nam2 report 1\nentries 0\n",
+        6,
+        "log full e0\nthe run met this full log: its report ends early, so nothing of it is checked or shown\n",
     ),
     (
         "am2_lab why step 0.1",
@@ -182,12 +229,13 @@ pub const MADE: &str =
     endpoint 0 0 100\n";
 
 /// Words that ask for nothing.
-pub const NO_WORDS: [&str; 27] = [
+pub const NO_WORDS: [&str; 28] = [
     "am2_lab",
     "am2_lab tell step",
     "am2_lab explain",
     "am2_lab explain make",
     "am2_lab explain step 0.1",
+    "am2_lab explain run --front",
     "am2_lab why step",
     "am2_lab why step 01",
     "am2_lab why step 0.0",

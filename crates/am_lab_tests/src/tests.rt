@@ -1,3 +1,5 @@
+//! What the lab tells of small texts.
+
 use crate::answers::{answer_to, asks, joined};
 use crate::tables::{MADE, NO_WORDS, PATH, REPORT, TOLD};
 use std::alloc::{AllocError, Global};

@@ -1,16 +1,12 @@
-use Rattle.std.proofs.Common.{inr, refl}
-use Rattle.am_main_lines.specs.Lines.{answer_in}
-use Rattle.am_lab.proofs.Saying.{is_checked}
+use Rattle.std.specs.Prelude.{Bool}
+use Rattle.std.proofs.Common.{subst}
+use Rattle.am_lab_reasons.specs.Reasons.{IsDeclared}
 use Rattle.am_lab.proofs.answers.message_output.Goals as goal
 
-pub why-requires-clause-checked : goal.why-requires-clause-checked
-why-requires-clause-checked c =
-    is_checked c.yes_is_true.ensures c.args.form c.args.bytes.now (answer_in c.args.checked.now) c.requires.checks c.requires.right
+pub message_told-requires-clause-declared : goal.message_told-requires-clause-declared
+message_told-requires-clause-declared c =
+    subst (λ (b : Bool). IsDeclared c.args.form c.args.bytes.now c.args.serial.source b) c.if-declared.true c.in_ok-declared.ensures
 
-pub returns : goal.returns
-returns c =
-    record {
-      checked = answer_in c.args.checked.now;
-      checks = c.requires.checks;
-      more = inr (record { right = c.requires.right; out = c.in_ok-text.text.items; tells = c.in_ok-text.ensures; answer' = refl });
-    }
+pub endpoint_lacking-requires-clause-undeclared : goal.endpoint_lacking-requires-clause-undeclared
+endpoint_lacking-requires-clause-undeclared c =
+    subst (λ (b : Bool). IsDeclared c.args.form c.args.bytes.now c.args.serial.source b) c.if-declared.false c.in_ok-declared.ensures

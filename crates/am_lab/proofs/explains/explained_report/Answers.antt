@@ -1,4 +1,4 @@
-use Rattle.am_lab.proofs.answers.explained.Goals as goal
+use Rattle.am_lab.proofs.explains.explained_report.Goals as goal
 
 pub with_due-requires-clause-stopped : goal.with_due-requires-clause-stopped
 with_due-requires-clause-stopped c =

@@ -1,6 +1,6 @@
 use Rattle.std.proofs.Common.{ℕ, List, ◌++◌, inr, ap, ◌∙◌}
 use Rattle.am_main_lines.specs.Lines.{Answer, answer_in}
-use Rattle.am_lab.proofs.answers.with_due.Goals as goal
+use Rattle.am_lab.proofs.explains.with_due.Goals as goal
 
 abbrev with_text : ℕ → List ℕ → Answer
 with_text status text = record { status = status; text = text }
