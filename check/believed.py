@@ -285,7 +285,7 @@ def told_of_files(new, files, order):
         title = "/".join(path.with_suffix("").parts[3:])
         names = ", ".join(f"`{name}`" for name in files[path].text if name in new[path]) if len(new[path]) <= 2 else ""
         crates.setdefault(path.parts[1], []).append((f"[{title}](../{path}) {lines}" + (f" ({names})" if names else ""), lines))
-    return [f"| {crate} | {', '.join(it[0] for it in its)} | {sum(it[1] for it in its)} |" for crate, its in crates.items()]
+    return [item(f"{crate} {sum(it[1] for it in its)}: {', '.join(it[0] for it in its)}") for crate, its in crates.items()]
 
 
 def told_of_types(kinds, order):
@@ -311,7 +311,7 @@ def slices():
         asked = set(all_.traits) - traits
         traits |= asked
         rows = told_of_files(new, all_.files, order)
-        rows += [f"| the kit | {module}: {', '.join(f'`{name}`' for name in sorted(names))} | |" for module, names in sorted(kits.items())]
+        rows += [item(f"the kit, {module}: {', '.join(f'`{name}`' for name in sorted(names))}") for module, names in sorted(kits.items())]
         made.append({
             "title": title, "sentence": sentence, "rows": rows, "new": new,
             "lines": sum(all_.files[path].lines[name] for path in new for name in new[path]), "files": len(new), "definitions": sum(map(len, new.values())),
@@ -328,13 +328,17 @@ def filled(text):
     return textwrap.fill(text, 120, break_long_words=False, break_on_hyphens=False)
 
 
+def item(text):
+    return textwrap.fill(f"- {text}", 120, subsequent_indent="  ", break_on_hyphens=False, break_long_words=False)
+
+
 def page_of(made):
     definitions, lines, type_lines = (sum(it[what] for it in made[:-1]) for what in ("definitions", "lines", "type_lines"))
     files = len({path for it in made[:-1] for path in it["new"]})
     out = ["# What must be believed", "", filled(
         f"The contract of [`am2`](../crates/am_main/src/top.rt), the one call that `main` makes, rests on {definitions} definitions of this repository: "
         f"{lines} lines in {files} files, and {type_lines} lines of plain Rust types of which these speak (comments, imports and empty lines aside). "
-        "Here they stand in slices. Read as many as you need: after each slice one can say what is promised so far, and each lists only what no earlier one has. The last is of "
+        "Here they stand in slices, each crate and each file with its lines. After each slice one can say what is promised so far, and each lists only what no earlier one has. The last is of "
         "`am2_lab`, a program of its own, on which the headline doesn't rest. [READING.md](READING.md) says how a definition is read."), ""]
     out += ["| Slice | Definitions | Lines | Lines so far | Lines of types |", "|---|---|---|---|---|"]
     so_far = 0
@@ -345,11 +349,10 @@ def page_of(made):
     out += ["", filled(
         "`check/believed.py --write` makes this page, and the gate's checks compare it; `--names` prints each definition. The script follows what each clause "
         "names, each trait that a contract asks for, each definition, and each type with its model. So nothing else of this repository is part of the "
-        "claim: no other definition, no lemma, and no code but the declarations of these types and traits. Of the kit's crates the definitions that ours name have rows "
-        "here. They stand in the kit's folder (`/opt/rattle/rattle` where this was written), and are trusted with it, as is what they name, and the standard "
-        "library's.")]
+        "claim: no other definition, no lemma, and no code but the declarations of these types and traits. The definitions of the kit's crates that ours name stand "
+        "here too, and are trusted with the kit, as is what they name, and its standard library.")]
     for it in made:
-        out += ["", f"## {it['title']}", "", filled(it["sentence"]), "", "| Crate | Files, each with its lines | Lines |", "|---|---|---|", *it["rows"]]
+        out += ["", f"## {it['title']}", "", filled(it["sentence"]), "", *it["rows"]]
         out += ["", filled(f"Traits that the contract asks for: {it['traits']}.")] if it["traits"] else []
         out += ["", filled(f"Types, read where they are declared: {it['types']}.")] if it["types"] else []
     return "\n".join(out) + "\n"

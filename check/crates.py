@@ -1,7 +1,7 @@
 #!/usr/bin/env python3
 """Crates, as crates.txt lists them, against docs/CRATES.md: crates.py
 
-Every crate stands in docs/CRATES.md once, under the heading of its layer, in the order of crates.txt."""
+Every crate stands in docs/CRATES.md once, in front of an item under the heading of its layer, in the order of crates.txt."""
 import re
 import sys
 from pathlib import Path
@@ -24,8 +24,8 @@ def told_of_page(found):
     for line in Path("docs/CRATES.md").read_text(encoding="utf-8").splitlines():
         if line.startswith("## "):
             layer = line[3:]
-        elif line.startswith("|") and layer:
-            page += [(layer, it) for it in re.findall(r"\bam\w+\b", line.split("|")[1])]
+        elif line.startswith("- ") and layer:
+            page += [(layer, it) for it in re.findall(r"^- \*\*(am\w+)\*\*: ", line)]
     want = [(layer, crate) for layer, crates in found.items() for crate in crates]
     told += [f"docs/CRATES.md lacks {crate}, of {layer}" for layer, crate in want if (layer, crate) not in page]
     told += [f"docs/CRATES.md has {crate} under {layer}" for layer, crate in page if (layer, crate) not in want]

@@ -1,16 +1,21 @@
 #!/usr/bin/env python3
 """What `am2_lab` tells, against a second reading of the report's text: lab.py PROGRAM AM2 [SCENARIO REPORT]..
 
-For each pair of files, or for each of examples/ without any: `why` of each message of the report and of one that it
-lacks; and `explain` of the right report, of the report with each of its lines changed in turn, and of the report cut
-off behind each line. The scenario tells its form. `scenario` prints it without a comment and printed again as it is,
-and AM2, the program am2, judges and makes the same report of it. Of a run `replay` prints what AM2 makes the same
+For each pair of files, or for each of examples/ without any: `why` of each message of the report, of one that it
+lacks, and of one of an endpoint that the scenario lacks; and `explain` of the right report, of the report with each of
+its lines changed in turn, of the report cut off behind each line, of the scenario alone, and of the scenario with a
+line spoiled, four times. The scenario tells its form. `scenario` prints it without a comment and printed again as it
+is, and AM2, the program am2, judges and makes the same report of it. Of a run `replay` prints what AM2 makes the same
 report of, callers aside.
 """
 import pathlib
+import random
 import re
 import subprocess
 import sys
+
+from faults import first_fault
+from refusals import explained
 
 CAUSES = {
     "no-endpoint": "its destination was closed",
@@ -63,6 +68,19 @@ def received(line):
     return (int(event[2]), int(event[0][1:]), int(event[3])) if event[1] == "receive" else None
 
 
+def declared(scenario):
+    """The endpoints that a scenario declares."""
+    return {it[1] for it in map(str.split, scenario.splitlines()) if it[:1] == ["endpoint"]}
+
+
+def why_of(scenario, plan, journal, fates, serial):
+    """The status and the text that `why` should answer."""
+    source = serial.split(".")[0]
+    if source not in declared(scenario):
+        return 12, f"no endpoint {source}\n"
+    return 0, reasons(plan, journal, fates, serial)
+
+
 def reasons(plan, journal, fates, serial):
     """What `why` should tell of a message."""
     out = []
@@ -95,11 +113,13 @@ def judge(program, scenario, report):
     journal = lines[2:2 + count]
     plan = {(int(it[1]), int(it[2]), int(it[3])): it[4:] for it in map(str.split, scenario.splitlines()) if it[:1] == ["plan"]}
     fates = {it[1]: it[3:] for it in map(str.split, lines[2 + count:]) if it[:1] == ["fate"]}
-    for serial in [*fates, "255.9"]:
+    for serial in [*fates, "255.9", f"{min(declared(scenario), default=0)}.4294967295"]:
         asked += 1
-        if told(program, "why", form, scenario + report, serial) != (0, reasons(plan, journal, fates, serial)):
+        if told(program, "why", form, scenario + report, serial) != why_of(scenario, plan, journal, fates, serial):
             faults.append(f"why {form} {serial}")
-    asked += 1
+    asked += 2
+    if told(program, "explain", form, scenario) != (10, "check line 1 form\nno report behind the scenario\n"):
+        faults.append(f"explain {form} of the scenario alone")
     if told(program, "explain", form, scenario + report) != (0, "check ok\n"):
         faults.append(f"explain {form}")
     for at, line in enumerate(lines):
@@ -109,7 +129,8 @@ def judge(program, scenario, report):
         if at >= 2 + count:
             right = status == 10 and text == f"check line {at + 1} tail\ndue {line}\n"
         elif at == 0:
-            right = status == 3 and text.startswith("refused line ")
+            refused = f"refused line {len(scenario.splitlines()) + 1} out-of-place\n  {changed[0]}\n  ^\n"
+            right = status == 3 and text.startswith(refused + "may stand there:") and text.count("\n") == 4
         elif at == 1:
             right = status == 10 and text.startswith("check line ")
         else:
@@ -125,6 +146,35 @@ def judge(program, scenario, report):
         due = f"check line {at + 2} tail\ndue {lines[at + 1]}\n" if at + 1 >= 2 + count else f"check line {at + 2} form\n"
         if (status, text) != (10, due):
             faults.append(f"explain {form} cut off behind line {at + 1}: {status} {text!r}")
+    return faults, asked
+
+
+def spoiled_scenario(draw, lines):
+    """The lines of a scenario, of which one is spoiled: a word replaced, the last word gone or another behind it, a byte that
+    may not stand there, or the line once more, at another place."""
+    at = draw.choice([it for it, line in enumerate(lines) if line.strip() and line.lstrip()[0] != "#"])
+    line = lines[at]
+    word = draw.choice(list(re.finditer(r"[^ ]+", line)))
+    spoils = [line[:word.start()] + other + line[word.end():] for other in ("?", "257", "poll")]
+    spoils += [line.rpartition(" ")[0] or line, line + "  7", line[:word.start()] + "\t" + line[word.end():]]
+    rest = lines[:at] + [draw.choice(spoils)] + lines[at + 1:]
+    if draw.random() < 0.2:
+        rest = lines[:]
+        rest.insert(draw.randrange(len(lines) + 1), line)
+    return "".join(it + "\n" for it in rest)
+
+
+def refused_wrongly(program, scenario):
+    """What is wrong in what is told of a scenario that is spoiled, and how much was asked."""
+    faults, asked = [], 0
+    draw = random.Random(scenario)
+    for text in [spoiled_scenario(draw, scenario.splitlines()) for _ in range(4)]:
+        for reader in ("step", "run"):
+            if first_fault(reader, text):
+                asked += 1
+                answer = told(program, "explain", reader, text)
+                if answer != (3, explained(reader, text)):
+                    faults.append(f"explain {reader} of {text!r}: {answer}")
     return faults, asked
 
 
@@ -170,6 +220,7 @@ def main(program, am2, *files):
             continue
         text = scenario.read_text()
         both = [judged(program, am2, text, report) for judged in (printed_wrongly, replayed_wrongly)]
+        both.append(refused_wrongly(program, text))
         for faults, asked in [judge(program, text, report), *both]:
             total += asked
             bad += len(faults)

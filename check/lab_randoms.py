@@ -7,7 +7,7 @@ import random
 import sys
 
 from chart import drawn, faults_in, lines_of
-from lab import reasons, told
+from lab import told, why_of
 from randoms import run_script, spoiled, step_script
 from reading import answer
 
@@ -27,7 +27,7 @@ def right_report(program, form, text, report):
     """What is wrong in what is told of a right report, and how much was asked."""
     plan, journal, fates = read(text, report)
     faults = [f"why {form} {serial}" for serial in [*fates, "255.9"]
-              if told(program, "why", form, text + report, serial) != (0, reasons(plan, journal, fates, serial))]
+              if told(program, "why", form, text + report, serial) != why_of(text, plan, journal, fates, serial)]
     if told(program, "explain", form, text + report) != (0, "check ok\n"):
         faults.append(f"explain {form}")
     faults += chart_faults(program, form, text, report)

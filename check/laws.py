@@ -1,8 +1,8 @@
 #!/usr/bin/env python3
 """The laws, public functions with an empty body, that stand on no page for readers: laws.py [--write]
 
-A law for readers stands in docs/LAWS.md, DEFINITIONS.md, PLACES.md or PARTS.md by its name. Each other one stands in docs/SERVICES.md: with what its comment says and the crates
-that cite it, or where none does with its file. This script makes that page, and tells where the page isn't as it would be made."""
+A law for readers stands in docs/LAWS.md, DEFINITIONS.md, PLACES.md or PARTS.md by its name, also behind its crate's and module's. Each other one stands in docs/SERVICES.md: by its file,
+with the crates that cite it. This script makes that page, and tells where the page isn't as it would be made, and which of these laws has no comment."""
 import re
 import sys
 import textwrap
@@ -14,17 +14,8 @@ HEAD = """# Laws that serve other crates
 
 A public function with an empty body is a law: its contract says it, and the function is its proof. The laws that a
 reader of the system looks for stand in [LAWS.md](LAWS.md) and [DEFINITIONS.md](DEFINITIONS.md). Here are the others, so
-that none is without a place. `check/laws.py --write` makes this page of the sources, and `.ci/checks` compares it.
-
-## Cited by other crates
-
-What each law says, with the crates that cite it. Where a sentence goes on from another law's, that one stands in front
-of it, also where no crate cites it.
-"""
-OWN = """
-## What a crate shows of itself
-
-These laws no other crate cites. The comment above each, in the file that is linked, says it in a sentence.
+that none is without a place: by the file, in which the comment above each says it in a sentence, with the crates that
+cite it in brackets. `check/laws.py --write` makes this page of the sources, and `.ci/checks` compares it.
 
 """
 
@@ -78,19 +69,8 @@ def rows_of(pages):
     order = list(known)
     for path, name, says in sorted(laws(), key=lambda it: order.index(it[0].parts[1])):
         crate = path.parts[1]
-        if f"`{name}`" not in pages:
+        if not re.search(rf"`(?:\w+::)*{name}`", pages):
             yield path, name, says, [it for it in order if crate in known[it][0] and (name in known[it][1] or name in known[it][2].get(crate, ()))]
-
-
-def told_above(rows):
-    """The places of the rows that others cite, and of those from which their sentences go on."""
-    found = set()
-    for at, (path, _, _, on) in enumerate(rows):
-        while on and at not in found:
-            found.add(at)
-            if re.match(r"(So|And|Where moreover) ", rows[at][2]) and at > 0 and rows[at - 1][0].parts[1] == path.parts[1]:
-                at -= 1
-    return found
 
 
 def wrapped(text):
@@ -98,19 +78,11 @@ def wrapped(text):
 
 
 def page():
-    rows = list(rows_of("".join(Path("docs", it).read_text(encoding="utf-8") for it in PAGES)))
-    above, crate, text, own = told_above(rows), None, HEAD, {}
-    for at, (path, name, says, on) in enumerate(rows):
-        if at not in above:
-            own.setdefault(path, []).append(f"`{name}`")
-            continue
-        if path.parts[1] != crate:
-            crate = path.parts[1]
-            text += f"\n**{crate}**\n\n"
-        cited = f" ({', '.join(on)})" if on else ""
-        text += wrapped(f"- `{name}`{cited}: {says}") + "\n"
-    lines = [wrapped(f"- [{Path(*path.parts[1:])}](../{path}): {', '.join(names)}") for path, names in own.items()]
-    return text + OWN + "\n".join(lines) + "\n", rows
+    rows, found = list(rows_of("".join(Path("docs", it).read_text(encoding="utf-8") for it in PAGES))), {}
+    for path, name, _, on in rows:
+        found.setdefault(path, []).append(f"`{name}` ({', '.join(on)})" if on else f"`{name}`")
+    lines = [wrapped(f"- [{Path(*path.parts[1:])}](../{path}): {', '.join(names)}") for path, names in found.items()]
+    return HEAD + "\n".join(lines) + "\n", rows
 
 
 def main():

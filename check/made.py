@@ -1,4 +1,4 @@
-"""The scenario that `am2 make N` makes of the number N, by a generator of random words."""
+"""The scenario that `am2 make N` makes of the number N, and the plan that `am2_lab faults` draws from a seed, by a generator of random words."""
 from scenario import ALL, Declared, Scenario
 
 
@@ -58,3 +58,17 @@ def make(number):
         place, fault = plan_line(words)
         made.plan.setdefault(place, fault)
     return made
+
+
+def fault_drawn(word):
+    kind = ("lose", "repeat", "late")[word // 100 % 3]
+    return kind, 1 + word // 300 % 16 if kind == "late" else 0
+
+
+def drawn_plan(seed, percent, nodes, calls):
+    """The plan of the first packets of each link, each with a word of its own."""
+    words = Words(seed, 55)
+    packets = min(2 * calls, 4096 // (nodes * nodes))
+    places = [(sender, receiver, number) for sender in range(nodes) for receiver in range(nodes) for number in range(1, packets + 1)]
+    drawn = [(place, words.next()) for place in places]
+    return {place: fault_drawn(word) for place, word in drawn if word % 100 < percent}
