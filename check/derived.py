@@ -145,7 +145,7 @@ def main(lab, program):
     for name, text in texts.items():
         for nodes in (1, 3, 8):
             counted(programs, name, text, nodes)
-    programs.check("one byte too many", programs.told(["count", 8, 0, 1], b"a" * (MOST + 1)) == (11, b"text too long\n"))
+    programs.check("one byte too many", programs.told(["count", 8, 0, 1], b"a" * (MOST + 1)) == (11, b"text too long: more than 1048576 bytes\n"))
     for wrong in programs.wrong:
         print(wrong)
     print(f"derived: {programs.asked} answers, {len(programs.wrong)} wrong")
