@@ -2,7 +2,7 @@
 
 use am_io::{MemorySink, MemorySource};
 use am_lab::answer;
-use am_lab_words::{line_words, read_words};
+use am_lab_words::{Asked, line_words, read_words};
 use std::alloc::{AllocError, Global};
 
 /// What the program answered: its status, and what the sink holds.
@@ -34,6 +34,15 @@ pub fn asks(alloc: Global, line: &str) -> Result<bool, AllocError> {
     Ok(read_words(alloc, &words).is_ok())
 }
 
+// Of the words of a line, which ask for this, those that a line of a report is to begin with.
+fn given_by(alloc: Global, asked: Asked, words: &[String]) -> Result<String, AllocError> {
+    let rest = match words {
+        [_, rest @ ..] => rest,
+        [] => words,
+    };
+    line_words(asked, rest).join(alloc, " ")
+}
+
 /// What the program answers to the words of a line and to a text; status 2 where the words ask for nothing.
 pub fn answer_to(alloc: Global, line: &str, text: Vec<u8>) -> Result<Answer, AllocError> {
     let words = words_of(alloc, line)?;
@@ -41,7 +50,7 @@ pub fn answer_to(alloc: Global, line: &str, text: Vec<u8>) -> Result<Answer, All
     let mut to = MemorySink::new(alloc, 4096, Vec::new(alloc));
     let status = match read_words(alloc, &words) {
         Ok(asked) => {
-            let given = line_words(asked, &words[1..]).join(alloc, " ")?;
+            let given = given_by(alloc, asked, &words)?;
             answer(alloc, asked, given.as_bytes(), &mut from, &mut to)
         }
         Err(_) => 2,
