@@ -336,7 +336,7 @@ joined() {
 
 # The command that does the same without the program, if one does.
 meanwhile() {
-    local reading=$top/check/reading.py folder=$top/ given='FILE' asked=${words[*]:0:taken} form
+    local reading=$top/check/reading.py folder=$top/ given='FILE' asked=${words[*]:0:taken} form does
     [ "$top" = "$PWD" ] && reading=check/reading.py folder=
     [ -e "$top/check/reading.py" ] || return
     [ ${#files[@]} -eq 0 ] || given=${files[*]}
@@ -344,10 +344,15 @@ meanwhile() {
     case $name:$asked in
         am2:count*) echo "Nothing else counts words meanwhile." ; return ;;
         am2_lab:replay*) echo "Meanwhile this prints the same script: ${folder}bin/replay ${files[*]:-SCENARIO REPORT}"; return ;;
-        am2_lab:explain*) form=${words[1]} asked="check $form" ;;
-        am2_lab:*) return ;;
+        am2:*) does='does the same' ;;
+        am2_lab:explain*) form=${words[1]} asked="check $form" does='judges the report' ;;
+        *) return ;;
     esac
-    echo "Meanwhile a second reading of the rules, in Python and with nothing to build, $([ "$name" = am2 ] && echo 'does the same' || echo 'judges the report'): python3 $reading $asked${given:+ $given}"
+    # (a scenario alone has no report to be judged)
+    if [ "$name" = am2_lab ] && [ ${#files[@]} -eq 1 ] && [ -f "${files[0]}" ] && ! grep -qx 'am2 report 1' -- "${files[0]}"; then
+        asked=$form does='tells the line that is refused'
+    fi
+    echo "Meanwhile a second reading of the rules, in Python and with nothing to build, $does: python3 $reading $asked${given:+ $given}"
 }
 
 # What a status other than 0 means, and what tells more of a scenario or a report that is refused.
@@ -357,8 +362,9 @@ tell_status() {
     { [ -t 1 ] && [ -z "$out" ]; } || say "$called: status $1: $(status_meaning "$1")"
     case $1:$asked in
         3:step | 3:run | 3:check* | 10:check*) form=${asked#check } ;;
-        3:why* | 3:chart* | 3:replay* | 3:scenario\ step | 3:scenario\ run | 10:why* | 10:chart* | 10:replay*) form=${words[1]} ;;
-        3:schedule*) form=run ;;
+        3:why* | 3:chart* | 3:replay* | 3:state* | 3:json* | 3:scenario\ step | 3:scenario\ run | 3:shrink*) form=${words[1]} ;;
+        10:why* | 10:chart* | 10:replay* | 10:state* | 10:json*) form=${words[1]} ;;
+        3:schedule* | 3:find* | 3:faults*) form=run ;;
         *) return ;;
     esac
     say "$(beside am2_lab) explain $form ${files[*]:-< FILE} tells more"

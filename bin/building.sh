@@ -29,14 +29,16 @@ is_stale() {
     [ -n "$(find "$top/crates.txt" ${folders+"${folders[@]}"} -type f -newer "$program" -print -quit)" ]
 }
 
-# Puts the crates into a folder of their own.
+# Writes the lines of the crates, lowest first, and puts the crates into a folder of their own.
+list_crates() {
+    awk -v wanted="${2//$'\n'/ }" '/^[a-z0-9_]+:/ { name = $1; sub(":", "", name); line[name] = $0 }
+        END { n = split(wanted, crates, " "); for (i = 1; i <= n; i++) if (crates[i] in line) print line[crates[i]] }' "$top/crates.txt" >"$1/crates.txt"
+}
 copy_crates() {
-    local room=$1 crate
-    mkdir "$room/crates" && cp "$top/HANDLES" "$room" || return
-    for crate in $2; do
-        grep -E "^$crate:" "$top/crates.txt" >>"$room/crates.txt"
-        (cd "$top/crates" && tar cf - --exclude "$crate/out" --exclude "$crate/must-fail" "$crate") | tar xf - -C "$room/crates" || return
-    done
+    local -a crates
+    mapfile -t crates <<<"$2"
+    mkdir "$1/crates" && cp "$top/HANDLES" "$1" || return
+    (cd "$top/crates" && tar cf - --anchored --no-wildcards-match-slash --exclude '*/out' --exclude '*/must-fail' "${crates[@]}") | tar xf - -C "$1/crates"
 }
 
 # What a build has started and made, so that it ends and goes with the build, however that ends.
@@ -51,11 +53,12 @@ end_build() {
 build_in() {
     local room=$1 status tell=("$top/bin/progress.py" "$name" "$1" "$top/bench/gate.txt")
     touch "$room/begun"
-    copy_crates "$room" "$2" || return
     : >"$room/log"
+    list_crates "$room" "$2" || return
     python3 -B "${tell[@]}" >&2
     python3 -B "${tell[@]}" $$ >&2 &
     build_telling=$!
+    copy_crates "$room" "$2" || return
     # (in a process of its own, so that a signal finds this script waiting and not busy)
     (cd "$room" && exec rt ci </dev/null) >"$room/log" 2>&1 &
     build_rt=$!
