@@ -24,7 +24,7 @@ def within(text):
         elif slanted is not None:
             found += f"\\fI{plain(slanted)}\\fR"
         elif picture is None:
-            found += f"\\fB{plain(code or bold)}\\fR"
+            found += f"\\fB{plain(code or bold.replace('`', ''))}\\fR"
     return found + plain(text[at:])
 
 
