@@ -338,8 +338,8 @@ def page_of(made):
     out = ["# What must be believed", "", filled(
         f"The contract of [`am2`](../crates/am_main/src/top.rt), the one call that `main` makes, rests on {definitions} definitions of this repository: "
         f"{lines} lines in {files} files, and {type_lines} lines of plain Rust types of which these speak (comments, imports and empty lines aside). "
-        "Here they stand in slices, each crate and each file with its lines. After each slice one can say what is promised so far, and each lists only what no earlier one has. The last is of "
-        "`am2_lab`, a program of its own, on which the headline doesn't rest. [READING.md](READING.md) says how a definition is read."), ""]
+        "Here they stand in slices, with their lines; each lists only what no earlier one has, and after each one can say what is promised so far. On the last, of `am2_lab`, "
+        "the headline doesn't rest. [READING.md](READING.md#definitions) says how a definition is read."), ""]
     out += ["| Slice | Definitions | Lines | Lines so far | Lines of types |", "|---|---|---|---|---|"]
     so_far = 0
     for it in made:
@@ -347,10 +347,9 @@ def page_of(made):
         anchor = re.sub(r"[^\w\- ]", "", it["title"].lower()).replace(" ", "-")
         out.append(f"| [{it['title']}](#{anchor}) | {it['definitions']} | {it['lines']} | {so_far if it is not made[-1] else 'apart'} | {it['type_lines']} |")
     out += ["", filled(
-        "`check/believed.py --write` makes this page, and the gate's checks compare it; `--names` prints each definition. The script follows what each clause "
-        "names, each trait that a contract asks for, each definition, and each type with its model. So nothing else of this repository is part of the "
-        "claim: no other definition, no lemma, and no code but the declarations of these types and traits. The definitions of the kit's crates that ours name stand "
-        "here too, and are trusted with the kit, as is what they name, and its standard library.")]
+        "`check/believed.py --write` makes this page, which the gate's checks compare; `--names` prints each definition. It follows what each clause names, each trait that a contract "
+        "asks for, each definition, and each type with its model: so no other definition, no lemma, and no code but the declarations of these types and traits is part of the claim. "
+        "The definitions of the kit's crates that ours name stand here too, and are trusted with the kit.")]
     for it in made:
         out += ["", f"## {it['title']}", "", filled(it["sentence"]), "", *it["rows"]]
         out += ["", filled(f"Traits that the contract asks for: {it['traits']}.")] if it["traits"] else []
