@@ -349,7 +349,7 @@ def page_of(made):
     out += ["", filled(
         "`check/believed.py --write` makes this page, which the gate's checks compare; `--names` prints each definition. It follows what each clause names, each trait that a contract "
         "asks for, each definition, and each type with its model: so no other definition, no lemma, and no code but the declarations of these types and traits is part of the claim. "
-        "The definitions of the kit's crates that ours name stand here too, and are trusted with the kit.")]
+        "The definitions of the kit's crates that ours name stand here too, and are trusted with the kit, as is what they name, and its standard library.")]
     for it in made:
         out += ["", f"## {it['title']}", "", filled(it["sentence"]), "", *it["rows"]]
         out += ["", filled(f"Traits that the contract asks for: {it['traits']}.")] if it["traits"] else []
