@@ -1,3 +1,2 @@
-mod Due
 mod Saying
 mod Statuses

@@ -1,9 +1,8 @@
 -- What an answer says, in other words.
 use Rattle.std.specs.Prelude.{true, codes, Result, Ok, Err}
-use Rattle.std.proofs.Common.{◌≡◌, ◌≢◌, ◌⊎◌, inl, inr, ℕ, ◌<◌, ◌≤◌, List, [], ◌∷◌, length, Option, Some, None, refl, sym, ap, ◌∙◌, subst, arith}
-use Rattle.am_check.specs.Laws.Laws.{IsTrueReport}
+use Rattle.std.proofs.Common.{◌≡◌, ◌≢◌, ◌⊎◌, inl, inr, ℕ, ◌<◌, ◌≤◌, List, [], ◌∷◌, length, Option, Some, None, refl, sym, ap, ◌∙◌, arith}
 use Rattle.am_io.specs.Causes.{Rose, Counter}
-use Rattle.am_main.specs.Answers.{AnswersTo, Finds, IsAnswered, IsDue, IsDueToText, IsOfCommand, IsOneOf, IsTaken}
+use Rattle.am_main.specs.Answers.{Finds, IsAnswered, IsDue, IsDueToText, IsOfCommand, IsOneOf, IsTaken}
 use Rattle.am_main_lines.specs.Offers.{IsOffered, IsWhole, no_memory, read_fault, too_long}
 use Rattle.am_main.specs.Answers.{statuses}
 use Rattle.am_main.specs.Commands.{reads_text}
@@ -13,7 +12,7 @@ use Rattle.am_main.specs.declared.commands.Command.TheVariants as Commands
 use Rattle.am_main.proofs.Statuses.{never}
 use Rattle.am_check.specs.declared.faults.CheckStop.{CheckStop}
 use Rattle.am_check.specs.declared.faults.CheckStop.TheVariants as Stops
-use Rattle.am_main_check.specs.Checks.{Tells, yes}
+use Rattle.am_main_check.specs.Checks.{Tells}
 use Rattle.am_main_run.specs.Counts.Counts.{CountAnswers, CountsWords}
 use Rattle.am_main_lines.specs.Lines.{Answer}
 use Rattle.am_main_run.specs.Runs.{MakeAnswers, PrintsRun, RunAnswers, Summarizes}
@@ -21,7 +20,6 @@ use Rattle.am_main_run.specs.Segments.Segments.{PrintsSegments, SegmentsAnswers}
 use Rattle.am_main_step.specs.Meaning.{PrintsHistory, StepAnswers}
 use Rattle.am_scenario.specs.Grammar.{grammar}
 use Rattle.am_scenario_types.specs.declared.faults.ScenarioFault.{ScenarioFault}
-use Rattle.am_scenario_types.specs.declared.parts.Form.{Form}
 use Rattle.am_scenario_types.specs.declared.parts.Form.TheVariants as Forms
 use Rattle.am_scenario_types.specs.Lists.{ScenarioLists}
 use Rattle.am_segment.specs.declared.scenario.SegmentScenario.{SegmentScenario}

@@ -1,10 +1,11 @@
 -- What each status says.
-use Rattle.std.specs.Prelude.{Bool, true, false, codes, Result, Ok, Err}
+use Rattle.std.specs.Prelude.{codes, Result, Ok, Err}
 use Rattle.std.specs.Io.KnownBytes.{Appends}
-use Rattle.std.proofs.Common.{◌≡◌, ◌≢◌, ◌⊎◌, inl, inr, ℕ, ◌<◌, ◌≤◌, List, [], ◌∷◌, length, Option, Some, None, refl, sym, ap, ◌∙◌, subst, arith}
-use Rattle.am_io.specs.Causes.{Rose, Stands, Counter}
+use Rattle.std.proofs.Common.{◌≡◌, ◌≢◌, ◌⊎◌, inl, inr, ℕ, List, [], ◌∷◌, Option, Some, None, refl, sym, ap, ◌∙◌, subst, arith}
+use Rattle.am_io.specs.Causes.{Rose, Counter}
 use Rattle.am_io.specs.Whole.{IsLonger}
-use Rattle.am_main.specs.Answers.{AnswersTo, IsAnswered, IsDue, IsDueToText, IsOfCommand, IsOneOf, IsTaken, LacksMemory}
+use Rattle.am_main.specs.Answers.{AnswersTo, IsAnswered, IsDue, IsDueToText, IsOfCommand, IsOneOf, IsTaken}
+use Rattle.am_main_answer.specs.Answers.{IsFault}
 use Rattle.am_main_lines.specs.Offers.{IsOffered, IsWhole, no_memory, read_fault, too_long}
 use Rattle.am_main.specs.Answers.{own_statuses, statuses, usage}
 use Rattle.am_main.specs.declared.commands.Command.{Command}
@@ -19,7 +20,6 @@ use Rattle.am_main_run.specs.Segments.Segments.{SegmentsAnswers}
 use Rattle.am_main_step.specs.Meaning.{StepAnswers}
 use Rattle.am_scenario.specs.Grammar.{grammar}
 use Rattle.am_scenario_types.specs.declared.faults.ScenarioFault.{ScenarioFault}
-use Rattle.am_scenario_types.specs.declared.parts.Form.{Form}
 use Rattle.am_scenario_types.specs.declared.parts.Form.TheVariants as Forms
 use Rattle.am_scenario_types.specs.Lists.{ScenarioLists}
 use Rattle.am_segment.specs.declared.scenario.SegmentScenario.{SegmentScenario}
@@ -119,11 +119,16 @@ never status other (inr (inr (inr (inl is)))) same zero' three six ten eleven = 
 never status other (inr (inr (inr (inr (inl is))))) same zero' three six ten eleven = eleven (sym is ∙ same)
 never status other (inr (inr (inr (inr (inr none))))) same zero' three six ten eleven = absurd none
 
-pub not_write_fault : (status : ℕ) → IsOfCommand status → status ≢ 5
-not_write_fault status is = λ (same : status ≡ 5). never status 5 is same (omega arith) (omega arith) (omega arith) (omega arith) (omega arith)
+-- and none of a fault
+pub no_fault : (status : ℕ) → IsOfCommand status → ¬ IsFault status
+no_fault status is (inl same) = never status 4 is same (omega arith) (omega arith) (omega arith) (omega arith) (omega arith)
+no_fault status is (inr (inl same)) = never status 5 is same (omega arith) (omega arith) (omega arith) (omega arith) (omega arith)
+no_fault status is (inr (inr (inl same))) = never status 7 is same (omega arith) (omega arith) (omega arith) (omega arith) (omega arith)
+no_fault status is (inr (inr (inr (inl same)))) = never status 8 is same (omega arith) (omega arith) (omega arith) (omega arith) (omega arith)
+no_fault status is (inr (inr (inr (inr none)))) = none
 
-pub not_no_memory : (status : ℕ) → IsOfCommand status → status ≢ 8
-not_no_memory status is = λ (same : status ≡ 8). never status 8 is same (omega arith) (omega arith) (omega arith) (omega arith) (omega arith)
+pub answer_no_fault : (command : Command) (bytes : List ℕ) (answer : Answer) → AnswersTo command bytes answer → ¬ IsFault answer.status
+answer_no_fault command bytes answer answers = no_fault answer.status (answer_status command bytes answer answers)
 
 -- ---- which answers are due
 
@@ -158,18 +163,6 @@ kind_of (Some (Commands.Check form)) left before now answer due = text_kind (Com
 -- an answer that is another one has another status
 other_status : (answer known : Answer) (n : ℕ) → answer ≡ known → answer.status ≡ n → known.status ≢ n → ⊥
 other_status answer known n same is other = other (sym (status_of answer known same) ∙ is)
-
-never_five : (asked : Option Command) (left : Option (List ℕ)) (before now : Counter) (answer : Answer) → Kind asked left before now answer →
-    answer.status ≡ 5 → ⊥
-never_five asked left before now answer (inl k) is = other_status answer usage 5 k.1 is (omega arith)
-never_five asked left before now answer (inr (inl k)) is = other_status answer read_fault 5 k.1 is (omega arith)
-never_five asked left before now answer (inr (inr (inl k))) is = other_status answer too_long 5 k.1 is (omega arith)
-never_five asked left before now answer (inr (inr (inr (inl k)))) is = other_status answer no_memory 5 k is (omega arith)
-never_five asked left before now answer (inr (inr (inr (inr k)))) is = not_write_fault answer.status k is
-
-pub not_five : (asked : Option Command) (left : Option (List ℕ)) (before now : Counter) (answer : Answer) → IsDue asked left before now answer →
-    answer.status ≢ 5
-not_five asked left before now answer due = λ (is : answer.status ≡ 5). never_five asked left before now answer (kind_of asked left before now answer due) is
 
 -- ---- what the sink took
 
@@ -243,27 +236,6 @@ too_long_of asked left before now status old new a is =
     let whole = whole_of a.answer status old new (differs status 7 5 is (omega arith)) (differs status 7 8 is (omega arith)) a.offered in
     too_long_by asked left before now a.answer old new (kind_of asked left before now a.answer a.due) (sym whole.status' ∙ is) whole.given
 
--- ---- want of memory
-
-apart_from_eight : (answer known : Answer) → answer ≡ known → known.status ≢ 8 → answer.status ≢ 8
-apart_from_eight answer known same other = λ (is : answer.status ≡ 8). other_status answer known 8 same is other
-
-lacks_by : (asked : Option Command) (left : Option (List ℕ)) (before now : Counter) (answer : Answer) (old new : Option (List ℕ)) (few many : Counter) →
-    Kind asked left before now answer → (answer.status ≢ 8 → Rose few many) → Appends old new answer.text ⊎ Rose few many → LacksMemory old new few many
-lacks_by asked left before now answer old new few many k short (inr rose) = inr rose
-lacks_by asked left before now answer old new few many (inl k) short (inl given) = inr (short (apart_from_eight answer usage k.1 (omega arith)))
-lacks_by asked left before now answer old new few many (inr (inl k)) short (inl given) = inr (short (apart_from_eight answer read_fault k.1 (omega arith)))
-lacks_by asked left before now answer old new few many (inr (inr (inl k))) short (inl given) = inr (short (apart_from_eight answer too_long k.1 (omega arith)))
-lacks_by asked left before now answer old new few many (inr (inr (inr (inl k)))) short (inl given) = inl (text_given answer no_memory old new k given)
-lacks_by asked left before now answer old new few many (inr (inr (inr (inr k)))) short (inl given) = inr (short (not_no_memory answer.status k))
-
-pub lacks_of : (asked : Option Command) (left : Option (List ℕ)) (before now : Counter) (answer : Answer) (status : ℕ) (old new : Option (List ℕ))
-    (few many : Counter) → IsDue asked left before now answer → (answer.status ≢ 8 → status ≡ 8 → Rose few many) →
-    (status ≡ 8 → Appends old new answer.text ⊎ Rose few many) → status ≡ 8 → LacksMemory old new few many
-lacks_of asked left before now answer status old new few many due short given eight =
-    lacks_by asked left before now answer old new few many (kind_of asked left before now answer due) (λ (other : answer.status ≢ 8). short other eight)
-    (given eight)
-
 -- ---- which statuses there are
 
 -- a fault of the sink, or want of memory, is always one
@@ -308,11 +280,3 @@ ends_by asked answer status old new own (inr cut) = cut_status asked status cut.
 pub ends_of : (asked : Option Command) (left : Option (List ℕ)) (before now : Counter) (status : ℕ) (old new : Option (List ℕ)) →
     IsAnswered asked left before now status old new → IsOneOf (statuses asked) status
 ends_of asked left before now status old new a = ends_by asked a.answer status old new (due_status asked left before now a.answer a.due) a.offered
-
--- ---- the end of the source
-
-pub ended_of : (answer : Answer) (status : ℕ) (old new : Option (List ℕ)) (ended : Bool) → IsOffered answer status old new →
-    (IsOfCommand answer.status → ended ≡ true) → IsOfCommand status → ended ≡ true
-ended_of answer status old new ended offered own is =
-    let whole = whole_of answer status old new (not_write_fault status is) (not_no_memory status is) offered in
-    own (subst (λ (n : ℕ). IsOfCommand n) whole.status' is)

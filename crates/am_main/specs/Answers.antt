@@ -1,14 +1,15 @@
 -- What the program answers: to what was asked for, and to the bytes that were read for it.
-use Rattle.std.specs.Io.KnownBytes.{Appends}
-use Rattle.std.specs.Prelude.{◌≡◌, ◌⊎◌, ℕ, ◌≤◌, List, [], ◌∷◌, codes, length, Option, Some, None}
-use Rattle.am_io.specs.Causes.{Rose, Stands, Counter}
-use Rattle.am_io.specs.Whole.{IsAll, IsLonger}
+use Rattle.std.specs.Prelude.{◌≡◌, ℕ, List, [], ◌∷◌, codes, Option, Some, None}
+use Rattle.am_io.specs.Causes.{Counter}
+use Rattle.am_main.specs.Commands.{reads_text}
 use Rattle.am_main.specs.declared.commands.Command.{Command}
 use Rattle.am_main.specs.declared.commands.Command.TheVariants as Commands
+use Rattle.am_main_answer.specs.Answers.{IsDueOffered, IsDueTaken, IsDueTo}
+use Rattle.am_main_answer.specs.Answers.{IsDueToText as IsDueToBytes}
+pub use Rattle.am_main_answer.specs.Answers.{Finds, IsOneOf, LacksMemory}
 use Rattle.am_main_check.specs.Checks.{CheckAnswers}
 use Rattle.am_main_run.specs.Counts.Counts.{CountAnswers}
 use Rattle.am_main_lines.specs.Lines.{Answer}
-use Rattle.am_main_lines.specs.Offers.{IsOffered, IsWhole, no_memory, read_fault, too_long}
 use Rattle.am_main_run.specs.Runs.{MakeAnswers, RunAnswers}
 use Rattle.am_main_run.specs.Segments.Segments.{SegmentsAnswers}
 use Rattle.am_main_step.specs.Meaning.{StepAnswers}
@@ -45,49 +46,25 @@ usage = record { status = 2; text = codes "usage: am2 step | am2 run | am2 make 
 
 -- ---- which answer is due
 
--- P holds of the bytes that a source had left, which are at most 16,777,216; what it doesn't tell may be any bytes
-pub record Finds (left : Option (List ℕ)) (P : List ℕ → Type 0) : Type 0 where
-  pub bytes : List ℕ
-  pub all : IsAll left bytes
-  pub few : length bytes ≤ 16_777_216
-  pub holds : P bytes
-
 -- To a command that reads a text: where a read failed, that is told, whatever was read. Else the bytes are too many, memory ran out, or
 -- the bytes are all that was left and the answer is one of the command to them.
 abbrev pub IsDueToText : Command → (left : Option (List ℕ)) (before now : Counter) → Answer → Type 0
-IsDueToText command left before now answer =
-    (Rose before now × (answer ≡ read_fault))
-    ⊎ (Stands before now × ((IsLonger left 16_777_216 × (answer ≡ too_long))
-    ⊎ ((answer ≡ no_memory)
-    ⊎ Finds left (λ bytes. AnswersTo command bytes answer))))
+IsDueToText command left before now answer = IsDueToBytes (codes "input too long\n") (AnswersTo command) left before now answer
 
--- To words of no form that is told, and to `make` and a number the summary of its run, or that memory ran out: neither reads.
+-- To words of no form that is told; to a command its answer is due, to a text or, for `make`, to its number.
 abbrev pub IsDue : Option Command → (left : Option (List ℕ)) (before now : Counter) → Answer → Type 0
 IsDue None left before now answer = answer ≡ usage
-IsDue (Some (Commands.Make n)) left before now answer = (answer ≡ no_memory) ⊎ MakeAnswers n answer
-IsDue (Some command) left before now answer = IsDueToText command left before now answer
+IsDue (Some command) left before now answer = IsDueTo (reads_text (Some command)) (codes "input too long\n") (AnswersTo command) left before now answer
 
 -- THE PROGRAM: an answer that is due was offered
-pub record IsAnswered (asked : Option Command) (left : Option (List ℕ)) (before now : Counter) (status : ℕ) (old new : Option (List ℕ)) : Type 0 where
-  pub answer : Answer
-  pub due : IsDue asked left before now answer
-  pub offered : IsOffered answer status old new
+abbrev pub IsAnswered : (asked : Option Command) (left : Option (List ℕ)) (before now : Counter) (status : ℕ) (old new : Option (List ℕ)) → Type 0
+IsAnswered asked left before now status old new = IsDueOffered (IsDue asked left before now) status old new
 
 -- and the sink took it whole
-pub record IsTaken (asked : Option Command) (left : Option (List ℕ)) (before now : Counter) (status : ℕ) (old new : Option (List ℕ)) : Type 0 where
-  pub answer : Answer
-  pub due : IsDue asked left before now answer
-  pub whole : IsWhole answer status old new
-
--- there was no memory: the line that says so was appended, or the sink met a shortage
-abbrev pub LacksMemory : Option (List ℕ) → Option (List ℕ) → Counter → Counter → Type 0
-LacksMemory old new before now = Appends old new (codes "no memory\n") ⊎ Rose before now
+abbrev pub IsTaken : (asked : Option Command) (left : Option (List ℕ)) (before now : Counter) (status : ℕ) (old new : Option (List ℕ)) → Type 0
+IsTaken asked left before now status old new = IsDueTaken (IsDue asked left before now) status old new
 
 -- ---- the statuses
-
-abbrev pub IsOneOf : List ℕ → ℕ → Type 0
-IsOneOf [] status = ⊥
-IsOneOf (one ∷ others) status = (status ≡ one) ⊎ IsOneOf others status
 
 -- With which statuses the program ends: 5 a write fault and 8 no memory, always; 2 words of no form; 4 a read fault and 7 too many bytes,
 -- where a text is read; and those of the answers of the command.

@@ -1,5 +1,5 @@
 -- What an answer says, in other words.
-use Rattle.std.specs.Prelude.{◌≡◌, ◌≢◌, ◌⊎◌, ℕ, ◌≤◌, true, List, [], codes, length, Option, Some, Result, Ok}
+use Rattle.std.specs.Prelude.{◌≡◌, ◌≢◌, ◌⊎◌, ℕ, ◌≤◌, true, List, [], codes, length, Option, Some, Ok}
 use Rattle.am_check.specs.Laws.Laws.{IsTrueReport}
 use Rattle.am_io.specs.Causes.{Rose, Counter}
 use Rattle.am_main.specs.Answers.{AnswersTo, Finds, IsAnswered, IsOfCommand, IsOneOf, IsTaken, statuses}

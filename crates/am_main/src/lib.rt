@@ -3,15 +3,13 @@
 
 mod answers;
 mod commands;
+mod jobs;
 mod laws;
-mod offers;
-mod replies;
 mod top;
 
 pub use crate::commands::{Command, command_of};
 pub use crate::laws::answers_say;
-pub use crate::offers::Status;
-pub use crate::top::{am2, answer_no_memory};
+pub use crate::top::{Status, am2, answer_no_memory};
 pub use am_main_run::counts::counts_have_one_answer;
 pub use am_main_run::have_one_answer;
 pub use am_main_run::segments::segments_have_one_answer;

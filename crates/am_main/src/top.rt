@@ -1,18 +1,69 @@
 //! The top call.
 
-ghost use Rattle.std.specs.Prelude.{◌≡◌, ◌≢◌, true, false};
+ghost use Rattle.std.specs.Prelude.{◌≡◌, ◌≢◌, IfSome, None, true, false};
 ghost use Rattle.am_io.specs.Causes.{Rose, Stands};
 ghost use Rattle.am_io.specs.Whole.{TakesAtMost};
 ghost use Rattle.am_main.specs.Answers.{IsAnswered, IsOfCommand, LacksMemory};
-ghost use Rattle.am_main.specs.Commands.{asked_by, reads_text};
+ghost use Rattle.am_main.specs.Commands.{IsInRange, asked_by, reads_text};
 ghost use Rattle.am_main_lines.specs.Offers.{IsOffered, no_memory};
 
-use crate::commands::command_of;
-use crate::offers::{Status, offer};
-use crate::replies::{Reply, reply_to};
+use crate::commands::{Command, command_of};
+use crate::jobs::Job;
 use am_io::{Sink, Source};
+use am_main_answer as answers;
 use std::alloc::Global;
 use std::thread::Threads;
+
+/// How the program ends: the number that the process ends with. docs/MANUAL.md lists them.
+#[derive(Clone, Copy, Debug, PartialEq, Eq)]
+pub struct Status {
+    pub number: u8,
+}
+
+const USAGE: &[u8] =
+    b"usage: am2 step | am2 run | am2 make N | am2 segments | am2 session | am2 count W U | am2 check step | am2 check run\n";
+
+const TOO_LONG: &[u8] = b"input too long\n";
+
+// Tells that the words have no form.
+#[tactic(auto, using(am_io::proofs::Parts::took_none))]
+fn answer_wrong<S: Source, K: Sink>(source: &mut S, sink: &mut K) -> u8
+    ensures answered { IsAnswered None (S.left source.old) (S.count source.old) (S.count source.new) result (K.held sink.old) (K.held sink.new) }
+    ensures write_fault { result ≡ 5 → Rose (K.count sink.old) (K.count sink.new) }
+    ensures no_write_fault { result ≢ 5 → Stands (K.count sink.old) (K.count sink.new) }
+    ensures shortage { result ≡ 8 → Rose (K.shortages sink.old) (K.shortages sink.new) }
+    ensures no_shortage { result ≢ 8 → Stands (K.shortages sink.old) (K.shortages sink.new) }
+    ensures unread { source.new ≡ source.old }
+    ensures took { TakesAtMost 16777217 (S.left source.old) (S.left source.new) }
+{
+    answers::offer_line(sink, 2, USAGE)
+}
+
+// Answers what was asked for, if it has a form.
+#[tactic(auto, using(crate::proofs::Statuses::no_fault))]
+fn answer_asked<R: Threads + Sync, S: Source, K: Sink>(
+    rt: &R,
+    alloc: Global,
+    asked: Option<Command>,
+    source: &mut S,
+    sink: &mut K,
+) -> u8
+    requires fresh { S.has_ended source.old ≡ false }
+    requires in_range { IfSome asked IsInRange }
+    ensures answered { IsAnswered asked (S.left source.old) (S.count source.old) (S.count source.new) result (K.held sink.old) (K.held sink.new) }
+    ensures write_fault { result ≡ 5 → Rose (K.count sink.old) (K.count sink.new) }
+    ensures no_write_fault { result ≢ 5 → Stands (K.count sink.old) (K.count sink.new) }
+    ensures no_memory { result ≡ 8 → LacksMemory (K.held sink.old) (K.held sink.new) (K.shortages sink.old) (K.shortages sink.new) }
+    ensures no_shortage { result ≢ 8 → Stands (K.shortages sink.old) (K.shortages sink.new) }
+    ensures ended { reads_text asked ≡ true → IsOfCommand result → S.has_ended source.new ≡ true }
+    ensures unread { reads_text asked ≡ false → source.new ≡ source.old }
+    ensures took { TakesAtMost 16777217 (S.left source.old) (S.left source.new) }
+{
+    match asked {
+        Some(command) => answers::answer_to(alloc, &Job { rt, command }, TOO_LONG, source, sink),
+        None => answer_wrong(source, sink),
+    }
+}
 
 /// The program, over any source that hasn't ended and any sink. Its words are `step`, which reads a step script and prints the report
 /// of the one history that follows its lines; `run`, which reads a scenario with the scripts of threads, runs them with the interfaces
@@ -40,7 +91,6 @@ use std::thread::Threads;
 ///
 /// It ends at the first read that fails and at the first write that is refused. What `answered` says of each status, as that the text of
 /// a report was taken whole, the law `answers_say` draws from it.
-#[tactic(auto, using(crate::proofs::Statuses::lacks_of, crate::proofs::Statuses::not_five, crate::proofs::Statuses::ended_of))]
 pub fn am2<R: Threads + Sync, S: Source, K: Sink>(
     rt: &R,
     alloc: Global,
@@ -62,13 +112,15 @@ pub fn am2<R: Threads + Sync, S: Source, K: Sink>(
     ensures unread { reads_text (asked_by words.now) ≡ false → source.new ≡ source.old }
     ensures took { TakesAtMost 16777217 (S.left source.old) (S.left source.new) }
 {
-    let reply = reply_to(rt, alloc, command_of(words), source);
-    offer(sink, &reply)
+    let number = answer_asked(rt, alloc, command_of(words), source, sink);
+    Status { number }
 }
 
 /// What the program answers where there is no memory for the words after its name: it offers the line that says so.
 pub fn answer_no_memory<K: Sink>(sink: &mut K) -> Status
     ensures { IsOffered no_memory result.number (K.held sink.old) (K.held sink.new) }
 {
-    offer(sink, &Reply::NoMemory)
+    Status {
+        number: answers::answer_no_memory(sink),
+    }
 }

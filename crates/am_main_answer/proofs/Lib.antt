@@ -1,0 +1,2 @@
+mod Due
+pub mod Ends
