@@ -1,5 +1,6 @@
 pub mod Touches
 pub mod Packets
+pub mod Receipts
 pub mod Reasons
 pub mod Refusals
 pub mod Stops

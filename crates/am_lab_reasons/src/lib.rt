@@ -13,24 +13,28 @@ ghost use Rattle.std.specs.Prelude.{◌≡◌, ◌<◌, ◌^◌, IfOk, length};
 pub mod due;
 pub mod journal;
 mod packets;
+mod receipts;
 pub mod refusals;
 pub mod stops;
 mod told;
 mod touches;
 
-use crate::journal::reach_end;
+use crate::journal::journal_of;
+pub use crate::receipts::TracedJournal;
 use crate::told::put_reasons;
 use am_check::place_of;
-use am_machine::Cluster;
 use am_names::{EndpointId, NoMemory, Serial};
-use am_office_entries::Journal;
 use am_scenario::{EndLine, Form, PlanLine, Scenario, read};
 use std::alloc::Global;
 
-fn text_of(
+/// What became of a message of a journal, as `why` tells it (`reasons` of specs/Reasons). The plan is that of the scenario whose journal
+/// it is. Goes over the entries a few times, and over the plan for each packet of the message that none receives.
+///
+/// `NoMemory` comes where there is none for the text.
+pub fn text_of(
     alloc: Global,
     plan: &[PlanLine],
-    journal: &Journal,
+    journal: &TracedJournal,
     serial: Serial,
 ) -> Result<Vec<u8>, NoMemory>
     requires { length journal.now < 2 ^ 31 }
@@ -53,10 +57,7 @@ fn reasons_of(
     requires report { (form : Kind) × IsReportOf form scenario.now bytes.now }
     ensures { (form : Kind) → IsReportOf form scenario.now bytes.now → IfOk result (λ out. TellsOf form scenario.now bytes.now serial out.items) }
 {
-    let mut cluster = Cluster::new(alloc, scenario)?;
-    reach_end(&mut cluster, bytes)?;
-    let logged = cluster.journal(alloc)?;
-    let journal = logged.copied(alloc)?;
+    let journal = TracedJournal::new(alloc, journal_of(alloc, scenario, bytes)?)?;
     text_of(alloc, &scenario.plan, &journal, serial)
 }
 

@@ -1,55 +1,35 @@
 //! What became of a packet.
 
-ghost use Rattle.am_lab_reasons.specs.Packets.{is_received, never, packet_line, receipt, received_lines, received_or, receives, way_line};
+ghost use Rattle.am_lab_reasons.specs.Packets.{never, packet_line, receipt, received_lines, received_or, way_line};
+ghost use Rattle.am_lab_reasons.specs.Packets as packets;
+ghost use Rattle.am_lab_reasons.specs.Receipts as receipts;
 ghost use Rattle.am_lemmas.specs.Numbered.{numbered};
 ghost use Rattle.am_scenario_plan.specs.Shape as shapes;
 ghost use Rattle.am_scenario_plan.specs.declared.plan.LinkFault.TheVariants.{Late};
 ghost use Rattle.std.specs.Prelude.{◌≡◌, ◌<◌, ◌^◌, ◌++◌, OnOk, Some, length};
 
+use crate::receipts::TracedJournal;
 use am_names::{Packet, Way};
-use am_office_entries::{Entry, Event};
 use am_office_text::Piece::{Number, Text};
 use am_office_text::{count, put_end, put_spaced, put_word, small};
 use am_scenario_plan::{LinkFault, PlanLine};
 use std::alloc::AllocError;
 
-fn receives(way: Way, event: Event) -> bool
-    ensures { result ≡ receives way.from way.to way.number event }
+// Appends the numbers of the lines that receive the packet, of which the first is that of the entry at this place.
+fn put_receipts(
+    out: &mut Vec<u8>,
+    journal: &TracedJournal,
+    way: Way,
+    first: usize,
+) -> Result<(), AllocError>
+    requires few { length journal.now < 2 ^ 31 }
+    requires first { receipts.first_receipt journal.now way ≡ Some first }
+    ensures { OnOk result (out.new.items ≡ out.old.items ++ numbered (receipt way.from way.to way.number) 3 journal.now) }
 {
-    match event {
-        Event::Receive { node, peer, number } => {
-            way.from.0 == peer.0 && way.to.0 == node.0 && way.number == number
-        }
-        _ => false,
-    }
-}
-
-fn is_received(way: Way, entries: &[Entry]) -> bool
-    ensures { result ≡ is_received way.from way.to way.number entries.now }
-{
-    entries.iter().any(|entry| receives(way, entry.event))
-}
-
-// Appends the number of a line that receives the packet.
-fn put_receipt(out: &mut Vec<u8>, way: Way, line: u64, entry: &Entry) -> Result<(), AllocError>
-    ensures { OnOk result (out.new.items ≡ out.old.items ++ receipt way.from way.to way.number line entry.now) }
-{
-    if receives(way, entry.event) {
-        put_spaced(out, &[Number(line)])
-    } else {
-        Ok(())
-    }
-}
-
-// Appends the numbers of the lines that receive the packet.
-fn put_receipts(out: &mut Vec<u8>, way: Way, entries: &[Entry]) -> Result<(), AllocError>
-    requires { length entries.now < 2 ^ 31 }
-    ensures { OnOk result (out.new.items ≡ out.old.items ++ numbered (receipt way.from way.to way.number) 3 entries.now) }
-{
-    let mut line: u64 = 3;
-    for entry in entries {
-        put_receipt(out, way, line, entry)?;
-        line += 1;
+    let mut next = Some(first);
+    while let Some(place) = next {
+        put_spaced(out, &[Number(place as u64 + 3)])?;
+        next = journal.later_receipt(place);
     }
     Ok(())
 }
@@ -88,27 +68,33 @@ fn put_never(out: &mut Vec<u8>, fault: Option<LinkFault>) -> Result<(), AllocErr
 
 // Appends the lines that receive the packet.
 #[tactic(auto, using(std::proofs::Common::append_assoc), unfolding(crate::specs::Packets::received_lines))]
-fn put_lines(out: &mut Vec<u8>, way: Way, entries: &[Entry]) -> Result<(), AllocError>
-    requires { length entries.now < 2 ^ 31 }
-    ensures { OnOk result (out.new.items ≡ out.old.items ++ received_lines entries.now way.from way.to way.number) }
+fn put_lines(
+    out: &mut Vec<u8>,
+    journal: &TracedJournal,
+    way: Way,
+    first: usize,
+) -> Result<(), AllocError>
+    requires few { length journal.now < 2 ^ 31 }
+    requires first { receipts.first_receipt journal.now way ≡ Some first }
+    ensures { OnOk result (out.new.items ≡ out.old.items ++ received_lines journal.now way.from way.to way.number) }
 {
     put_word(out, Text(" received line"))?;
-    put_receipts(out, way, entries)
+    put_receipts(out, journal, way, first)
 }
 
+// Appends the lines that receive the packet, or why it never was received.
 fn put_received(
     out: &mut Vec<u8>,
     plan: &[PlanLine],
-    entries: &[Entry],
+    journal: &TracedJournal,
     way: Way,
 ) -> Result<(), AllocError>
-    requires { length entries.now < 2 ^ 31 }
-    ensures { OnOk result (out.new.items ≡ out.old.items ++ received_or (is_received way.from way.to way.number entries.now) plan.now entries.now way.from way.to way.number) }
+    requires { length journal.now < 2 ^ 31 }
+    ensures { OnOk result (out.new.items ≡ out.old.items ++ received_or (packets.is_received way.from way.to way.number journal.now) plan.now journal.now way.from way.to way.number) }
 {
-    if is_received(way, entries) {
-        put_lines(out, way, entries)
-    } else {
-        put_never(out, fault_at(plan, way))
+    match journal.first_receipt(way) {
+        Some(first) => put_lines(out, journal, way, first),
+        None => put_never(out, fault_at(plan, way)),
     }
 }
 
@@ -116,11 +102,11 @@ fn put_received(
 fn put_way(
     out: &mut Vec<u8>,
     plan: &[PlanLine],
-    entries: &[Entry],
+    journal: &TracedJournal,
     way: Way,
 ) -> Result<(), AllocError>
-    requires { length entries.now < 2 ^ 31 }
-    ensures { OnOk result (out.new.items ≡ out.old.items ++ way_line plan.now entries.now way.from way.to way.number) }
+    requires { length journal.now < 2 ^ 31 }
+    ensures { OnOk result (out.new.items ≡ out.old.items ++ way_line plan.now journal.now way.from way.to way.number) }
 {
     put_word(out, Text("packet"))?;
     put_spaced(
@@ -133,7 +119,7 @@ fn put_way(
             small(way.to.0),
         ],
     )?;
-    put_received(out, plan, entries, way)?;
+    put_received(out, plan, journal, way)?;
     put_end(out)
 }
 
@@ -141,14 +127,14 @@ fn put_way(
 pub(crate) fn put_packet(
     out: &mut Vec<u8>,
     plan: &[PlanLine],
-    entries: &[Entry],
+    journal: &TracedJournal,
     packet: Option<Packet>,
 ) -> Result<(), AllocError>
-    requires { length entries.now < 2 ^ 31 }
-    ensures { OnOk result (out.new.items ≡ out.old.items ++ packet_line plan.now entries.now packet) }
+    requires { length journal.now < 2 ^ 31 }
+    ensures { OnOk result (out.new.items ≡ out.old.items ++ packet_line plan.now journal.now packet) }
 {
     match packet {
-        Some(packet) => put_way(out, plan, entries, packet.way()),
+        Some(packet) => put_way(out, plan, journal, packet.way()),
         None => Ok(()),
     }
 }

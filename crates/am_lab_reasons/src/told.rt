@@ -5,10 +5,11 @@ ghost use Rattle.am_lemmas.specs.Numbered.{numbered};
 ghost use Rattle.std.specs.Prelude.{◌≡◌, ◌<◌, ◌^◌, ◌++◌, OnOk, length};
 
 use crate::packets::put_packet;
+use crate::receipts::TracedJournal;
 use crate::touches::touches;
 use am_iface::emitted_of;
 use am_names::{Cause, NoMemory, Serial};
-use am_office_entries::{Entry, Fate, Journal, fate};
+use am_office_entries::{Entry, Fate, fate};
 use am_office_text::Piece::{Number, Text};
 use am_office_text::entry_lines::entry_line;
 use am_office_text::{Piece, put_word};
@@ -20,18 +21,18 @@ use std::alloc::AllocError;
 fn put_entry(
     out: &mut Vec<u8>,
     plan: &[PlanLine],
-    entries: &[Entry],
+    journal: &TracedJournal,
     line: u64,
     entry: &Entry,
 ) -> Result<(), NoMemory>
-    requires { length entries.now < 2 ^ 31 }
-    ensures { OnOk result (out.new.items ≡ out.old.items ++ entry_lines plan.now entries.now line entry.now) }
+    requires { length journal.now < 2 ^ 31 }
+    ensures { OnOk result (out.new.items ≡ out.old.items ++ entry_lines plan.now journal.now line entry.now) }
 {
     put_word(out, Text("line "))?;
     put_word(out, Number(line))?;
     put_word(out, Text(" "))?;
     entry_line(entry, out)?;
-    put_packet(out, plan, entries, emitted_of(entry))?;
+    put_packet(out, plan, journal, emitted_of(entry))?;
     Ok(())
 }
 
@@ -39,34 +40,36 @@ fn put_entry(
 fn put_touching(
     out: &mut Vec<u8>,
     plan: &[PlanLine],
-    entries: &[Entry],
+    journal: &TracedJournal,
     serial: Serial,
     line: u64,
     entry: &Entry,
 ) -> Result<(), NoMemory>
-    requires { length entries.now < 2 ^ 31 }
-    ensures { OnOk result (out.new.items ≡ out.old.items ++ touching_lines plan.now entries.now serial line entry.now) }
+    requires { length journal.now < 2 ^ 31 }
+    ensures { OnOk result (out.new.items ≡ out.old.items ++ touching_lines plan.now journal.now serial line entry.now) }
 {
     if touches(serial, entry) {
-        put_entry(out, plan, entries, line, entry)
+        put_entry(out, plan, journal, line, entry)
     } else {
         Ok(())
     }
 }
 
-// Appends the entries that touch the message.
+// Appends those of these entries that touch the message.
 fn put_touched(
     out: &mut Vec<u8>,
     plan: &[PlanLine],
+    journal: &TracedJournal,
     entries: &[Entry],
     serial: Serial,
 ) -> Result<(), NoMemory>
-    requires { length entries.now < 2 ^ 31 }
-    ensures { OnOk result (out.new.items ≡ out.old.items ++ numbered (touching_lines plan.now entries.now serial) 3 entries.now) }
+    requires journal { length journal.now < 2 ^ 31 }
+    requires entries { length entries.now < 2 ^ 31 }
+    ensures { OnOk result (out.new.items ≡ out.old.items ++ numbered (touching_lines plan.now journal.now serial) 3 entries.now) }
 {
     let mut line: u64 = 3;
     for entry in entries {
-        put_touching(out, plan, entries, serial, line, entry)?;
+        put_touching(out, plan, journal, serial, line, entry)?;
         line += 1;
     }
     Ok(())
@@ -128,13 +131,13 @@ fn put_ending(out: &mut Vec<u8>, serial: Serial, fate: Option<Fate>) -> Result<(
 pub(crate) fn put_reasons(
     out: &mut Vec<u8>,
     plan: &[PlanLine],
-    journal: &Journal,
+    journal: &TracedJournal,
     serial: Serial,
 ) -> Result<(), NoMemory>
     requires { length journal.now < 2 ^ 31 }
     ensures { OnOk result (out.new.items ≡ out.old.items ++ reasons plan.now journal.now serial) }
 {
-    put_touched(out, plan, &journal.entries, serial)?;
-    put_ending(out, serial, fate(journal, serial))?;
+    put_touched(out, plan, journal, journal.entries(), serial)?;
+    put_ending(out, serial, fate(journal.journal(), serial))?;
     Ok(())
 }

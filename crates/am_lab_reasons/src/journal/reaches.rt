@@ -1,15 +1,20 @@
 //! A cluster as it stands in front of a line of a report, and behind its journal.
 
-ghost use Rattle.am_check.specs.Verdict.{count_of};
+ghost use Rattle.am_check.specs.Verdict.{IsReportOf, count_of};
 ghost use Rattle.am_lab_reasons.specs.Journal.Lines.{AreLines, HasEnd, HasPlace};
 ghost use Rattle.am_lexer.specs.Text.{lines_of};
 ghost use Rattle.am_office_entries.specs.declared.Entry.{Entry};
-ghost use Rattle.std.specs.Prelude.{◌≡◌, ◌+◌, [], ℕ, List, IfOk, OnOk, Some, drop, length};
+ghost use Rattle.am_scenario_types.specs.Lawful.{IsLawful};
+ghost use Rattle.am_scenario_types.specs.declared.parts.Form.{Form};
+ghost use Rattle.std.specs.Prelude.{◌≡◌, ◌+◌, ◌<◌, ◌^◌, [], ℕ, List, IfOk, OnOk, Some, drop, length};
 
 use crate::journal::plays::play;
 use am_check::split_head;
 use am_machine::Cluster;
 use am_names::NoMemory;
+use am_office_entries::Journal;
+use am_scenario::Scenario;
+use std::alloc::Global;
 
 /// Makes the entries of a report's journal up to the line with this number, counted from 1, on a fresh cluster, and gives the lines
 /// from that one on.
@@ -39,4 +44,18 @@ pub fn reach_end(cluster: &mut Cluster, bytes: &[u8]) -> Result<(), NoMemory>
         Ok(_) => Ok(()),
         Err(fault) => Err(fault),
     }
+}
+
+/// The journal of a report of a scenario, made again from the report's lines. `NoMemory` comes where there is none for it.
+pub fn journal_of(alloc: Global, scenario: &Scenario, bytes: &[u8]) -> Result<Journal, NoMemory>
+    requires few { length bytes.now < 2 ^ 31 }
+    requires lawful { IsLawful scenario.now }
+    requires report { (form : Form) × IsReportOf form scenario.now bytes.now }
+    ensures made { (form : Form) (report : IsReportOf form scenario.now bytes.now) → IfOk result (λ journal. journal ≡ report.journal) }
+    ensures few { IfOk result (λ journal. length journal < 2 ^ 31) }
+{
+    let mut cluster = Cluster::new(alloc, scenario)?;
+    reach_end(&mut cluster, bytes)?;
+    let logged = cluster.journal(alloc)?;
+    logged.copied(alloc)
 }

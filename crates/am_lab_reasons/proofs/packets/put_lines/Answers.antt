@@ -9,5 +9,5 @@ unfolding received_lines
 returns c =
     let w = c.args.way in
     both_put c.put_receipts.result c.put_receipts.new.out.items c.put_word.new.out.items c.args.out.now.items (codes " received line")
-    (numbered (receipt w.from w.to w.number) 3 c.args.entries.now)
+    (numbered (receipt w.from w.to w.number) 3 c.args.journal.now)
     c.in_ok-put_word.ensures.ok c.put_receipts.ensures

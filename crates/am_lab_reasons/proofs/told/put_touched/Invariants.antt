@@ -7,6 +7,6 @@ abbrev pub invariant-loop-entry : goal.invariant-loop-entry
 invariant-loop-entry l =
     record {
       line : l.line ≡ l.entry-index + 3;
-      out : l.out.items ++ numbered (touching_lines l.plan l.entries l.serial) l.line (drop l.entry-index l.entries) ≡ l.fn.out.items ++ numbered
-          (touching_lines l.plan l.entries l.serial) 3 l.entries;
+      out : l.out.items ++ numbered (touching_lines l.plan l.journal l.serial) l.line (drop l.entry-index l.entries) ≡ l.fn.out.items ++ numbered
+          (touching_lines l.plan l.journal l.serial) 3 l.entries;
     }
