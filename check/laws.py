@@ -1,14 +1,14 @@
 #!/usr/bin/env python3
 """The laws, public functions with an empty body, that stand on no page for readers: laws.py [--write]
 
-A law for readers stands in docs/LAWS.md, DEFINITIONS.md, PLACES.md or PARTS.md by its name, also behind its crate's and module's. Each other one stands in docs/SERVICES.md: by its file,
+A law for readers stands in docs/LAWS.md, DEFINITIONS.md, PLACES.md, PARTS.md or LIBRARIES.md by its name, also behind its crate's and module's. Each other one stands in docs/SERVICES.md: by its file,
 with the crates that cite it. This script makes that page, and tells where the page isn't as it would be made, and which of these laws has no comment."""
 import re
 import sys
 import textwrap
 from pathlib import Path
 
-PAGES = ("LAWS.md", "DEFINITIONS.md", "PLACES.md", "PARTS.md")
+PAGES = ("LAWS.md", "DEFINITIONS.md", "PLACES.md", "PARTS.md", "LIBRARIES.md")
 SIGNATURE = re.compile(r"\s*pub (?:const |ghost )?fn (\w+)")
 HEAD = """# Laws that serve other crates
 

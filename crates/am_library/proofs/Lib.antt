@@ -1,0 +1,13 @@
+pub mod Weights
+pub mod Called
+pub mod Distinct
+pub mod Ended
+pub mod Replied
+pub mod Summed
+pub mod Adding
+pub mod Faulty
+pub mod Drafted
+pub mod Accounting
+pub mod Ran
+pub mod Running
+pub mod Lawful

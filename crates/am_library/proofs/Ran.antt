@@ -1,0 +1,64 @@
+-- What ran at an endpoint, entry by entry.
+use Rattle.std.proofs.Common.{◌≡◌, ℕ, ◌+◌, ◌<◌, Bool, true, false, ◌&&◌, cond, Option, Some, None, List, [], ◌∷◌, ◌++◌, refl, sym, ap, ◌∙◌, length, take, get_or, filter_map}
+use Rattle.std.specs.Prelude.{filter, fold, option_to_list}
+use Rattle.std.specs.Borrow.{Bor}
+use Rattle.std.specs.List.{cons_option}
+use Rattle.std.proofs.lemmas.List.{append-nil}
+use Rattle.std.proofs.lemmas.List.Elements.{filter-append, filter_map-append}
+use Rattle.std.proofs.lemmas.List.Sums.{fold_push}
+use Rattle.am_names.specs.declared.EndpointId.{EndpointId}
+use Rattle.am_names.specs.declared.Message.{Message}
+use Rattle.am_names.specs.Names.{is_request}
+use Rattle.am_office_entries.specs.declared.Entry.{Entry}
+use Rattle.am_office_entries.specs.Entries.{run_of}
+use Rattle.am_office_entries.specs.Logged.Behind.{entries_behind}
+use Rattle.am_office_entries.proofs.Entries.{behind_next}
+use Rattle.am_library.specs.Views.{is_to, requests_run, runs_at}
+
+-- a fold over one entry more
+pub folds : {B : Type 0} (f : B → Entry → B) (b : B) (xs : List (Bor Entry)) (i : ℕ) (d : Bor Entry) (mid new : B) → i < length xs →
+    mid ≡ fold f b (take i (entries_behind xs)) → new ≡ f mid (get_or xs i d).now → new ≡ fold f b (take (i + 1) (entries_behind xs))
+folds {B} f b xs i d mid new below so_far step =
+    step
+    ∙ ap (λ (m : B). f m (get_or xs i d).now) so_far
+    ∙ sym (ap (fold f b) (behind_next xs i d below) ∙ fold_push f b (take i (entries_behind xs)) (get_or xs i d).now)
+
+-- what ran in two parts of a journal
+runs_both : (past more : List Entry) (e : EndpointId) → runs_at (past ++ more) e ≡ runs_at past e ++ runs_at more e
+runs_both past more e =
+    ap (λ (ms : List Message). filter (is_to e) (filter is_request ms)) (filter_map-append run_of past more)
+    ∙ ap (filter (is_to e)) (filter-append is_request (filter_map run_of past) (filter_map run_of more))
+    ∙ filter-append (is_to e) (requests_run past) (requests_run more)
+
+pub runs_next : (xs : List (Bor Entry)) (e : EndpointId) (i : ℕ) (d : Bor Entry) (o : Option Message) (runs new : List Message) → i < length xs →
+    runs ≡ runs_at (take i (entries_behind xs)) e → option_to_list o ≡ runs_at ((get_or xs i d).now ∷ []) e → new ≡ runs ++ option_to_list o →
+    new ≡ runs_at (take (i + 1) (entries_behind xs)) e
+runs_next xs e i d o runs new below so_far here push =
+    push
+    ∙ (λ j. so_far j ++ here j)
+    ∙ sym (ap (λ (past : List Entry). runs_at past e) (behind_next xs i d below) ∙ runs_both (take i (entries_behind xs)) ((get_or xs i d).now ∷ []) e)
+
+pub runs_same : (xs : List (Bor Entry)) (e : EndpointId) (i : ℕ) (d : Bor Entry) (runs : List Message) → i < length xs →
+    runs ≡ runs_at (take i (entries_behind xs)) e → [] ≡ runs_at ((get_or xs i d).now ∷ []) e → runs ≡ runs_at (take (i + 1) (entries_behind xs)) e
+runs_same xs e i d runs below so_far here = runs_next xs e i d None runs runs below so_far here (sym (append-nil runs))
+
+-- the request that one entry runs at an endpoint
+kept : (e : EndpointId) (m : Message) (a b : Bool) → is_request m ≡ a → is_to e m ≡ b → filter (is_to e) (filter is_request (m ∷ [])) ≡ cond (a && b) (m ∷ []) []
+kept e m true true request to = ap (λ (t : Bool). filter (is_to e) (cond t (m ∷ []) [])) request ∙ ap (λ (t : Bool). cond t (m ∷ []) []) to
+kept e m true false request to = ap (λ (t : Bool). filter (is_to e) (cond t (m ∷ []) [])) request ∙ ap (λ (t : Bool). cond t (m ∷ []) []) to
+kept e m false b request to = ap (λ (t : Bool). filter (is_to e) (cond t (m ∷ []) [])) request
+
+pub one_run : (x : Entry) (e : EndpointId) (m : Message) → run_of x ≡ Some m → (is_request m && is_to e m) ≡ true → m ∷ [] ≡ runs_at (x ∷ []) e
+one_run x e m is both =
+    sym (ap (λ (o : Option Message). filter (is_to e) (filter is_request (cons_option o []))) is
+    ∙ kept e m (is_request m) (is_to e m) refl refl
+    ∙ ap (λ (t : Bool). cond t (m ∷ []) []) both)
+
+pub no_run : (x : Entry) (e : EndpointId) (m : Message) → run_of x ≡ Some m → (is_request m && is_to e m) ≡ false → [] ≡ runs_at (x ∷ []) e
+no_run x e m is both =
+    sym (ap (λ (o : Option Message). filter (is_to e) (filter is_request (cons_option o []))) is
+    ∙ kept e m (is_request m) (is_to e m) refl refl
+    ∙ ap (λ (t : Bool). cond t (m ∷ []) []) both)
+
+pub none_run : (x : Entry) (e : EndpointId) → run_of x ≡ None → [] ≡ runs_at (x ∷ []) e
+none_run x e is = sym (ap (λ (o : Option Message). filter (is_to e) (filter is_request (cons_option o []))) is)

@@ -1,0 +1,102 @@
+-- What a library may rely on, in its words.
+use Rattle.std.specs.Prelude.{◌≡◌, ℕ, ◌%◌, ◌^◌, ◌≤◌, ◌⊎◌, Bool, true, false, ◌||◌, not, Some, List, [], ◌∷◌, count_by, filter, filter_map, length, sum_by}
+use Rattle.std.specs.List.{Contains, list_all}
+use Rattle.am_names.specs.Rules.{is_transient}
+use Rattle.am_names.specs.declared.Cause.{Cause}
+use Rattle.am_names.specs.declared.EndpointId.{EndpointId}
+use Rattle.am_names.specs.declared.Message.{Message}
+use Rattle.am_names.specs.declared.Serial.{Serial}
+use Rattle.am_names.specs.declared.Words.{Words}
+use Rattle.am_names.specs.Names.{has_serial, same_end}
+use Rattle.am_office_entries.specs.declared.Call.{Call}
+use Rattle.am_office_entries.specs.declared.Call.TheVariants as Calls
+use Rattle.am_office_entries.specs.declared.HandlerKind.TheVariants.{Add}
+use Rattle.am_office_entries.specs.declared.Entry.{Entry}
+use Rattle.am_office_entries.specs.declared.endings.Fate.TheVariants as Fates
+use Rattle.am_office_entries.specs.Entries.{accepted_of}
+use Rattle.am_office_entries.specs.Fates.{fate}
+use Rattle.am_model.specs.PostOffice.{WasAccepted, is_about}
+use Rattle.am_scenario_types.specs.declared.parts.ScriptCall.{ScriptCall}
+use Rattle.am_scenario_types.specs.Lists.{ScenarioLists}
+use Rattle.am_laws_runs.specs.Turns.Endings.{WithholdsNothing}
+use Rattle.am_library.specs.Ends.{AddUp, words_asked}
+use Rattle.am_library.specs.Runs.{IsRun}
+use Rattle.am_library.specs.Views.{requests_run, runs_at, sum_at}
+
+-- one reply to a request was accepted: it goes back to the request's source, under the tag that the request gives
+pub record HasOneReply (journal : List Entry) (m : Message) : Type 0 where
+  pub reply : Message
+  pub only : filter (is_about m.serial) (filter_map accepted_of journal) ≡ reply ∷ []
+  pub dest' : reply.dest ≡ m.serial.source
+  pub tag' : reply.tag ≡ m.reply_tag
+
+-- whether a call leaves the handlers of its endpoint such that each adds, and makes no request there
+abbrev pub is_adding : Call → Bool
+is_adding (Calls.SetHandler index (Add to)) = true
+is_adding (Calls.SetHandler index kind) = false
+is_adding (Calls.Request index handler words) = false
+is_adding call = true
+
+abbrev pub leaves_adding : EndpointId → ScriptCall → Bool
+leaves_adding e made = not (same_end e made.endpoint) || is_adding made.call
+
+-- an endpoint that adds: each handler that the script sets there is `add`, and it makes no requests
+abbrev pub Adds : ScenarioLists → EndpointId → Type 0
+Adds s e = list_all (leaves_adding e) s.script ≡ true
+
+abbrev pub first_word : Message → ℕ
+first_word m = m.words.a
+
+-- the sum of an endpoint is that of the first words of the requests that ran there
+abbrev pub IsSumOfRuns : List Entry → EndpointId → Type 0
+IsSumOfRuns journal e = sum_at journal e ≡ sum_by first_word (runs_at journal e) % 2 ^ 64
+
+-- ---- the laws, each of every run of every lawful scenario, by whatever runner
+
+-- a request ran at most once
+abbrev pub RunsAtMostOnce : Type 0
+RunsAtMostOnce = (s : ScenarioLists) (journal : List Entry) → IsRun s journal → (serial : Serial) → count_by (has_serial serial) (requests_run journal) ≤ 1
+
+-- a message ran, or it came back for a cause that isn't transient
+abbrev pub RanOrCameBack : List Entry → Serial → Type 0
+RanOrCameBack journal serial =
+    (fate journal serial ≡ Some Fates.Ran) ⊎ ((cause : Cause) × (fate journal serial ≡ Some (Fates.Returned cause)) × (is_transient cause ≡ false))
+
+-- where the plan withholds nothing, each message that was accepted did one of both
+abbrev pub NothingIsLost : Type 0
+NothingIsLost = (s : ScenarioLists) (journal : List Entry) → IsRun s journal → WithholdsNothing s → (m : Message) → WasAccepted journal m → RanOrCameBack journal m.serial
+
+-- what came back never ran
+abbrev pub WhatCameBackNeverRan : Type 0
+WhatCameBackNeverRan =
+    (s : ScenarioLists) (journal : List Entry) (serial : Serial) (cause : Cause) → IsRun s journal → fate journal serial ≡ Some (Fates.Returned cause) → count_by (has_serial serial) (requests_run journal) ≡ 0
+
+-- an unknown message didn't run, and one that is unknown but ran is told apart from it
+abbrev pub TheUnknownDidNotRun : Type 0
+TheUnknownDidNotRun =
+    (s : ScenarioLists) (journal : List Entry) (serial : Serial) → IsRun s journal → fate journal serial ≡ Some Fates.Unknown → count_by (has_serial serial) (requests_run journal) ≡ 0
+
+-- a request that ran has one reply, under its tag
+abbrev pub EachRunHasOneReply : Type 0
+EachRunHasOneReply = (s : ScenarioLists) (journal : List Entry) (m : Message) → IsRun s journal → Contains (requests_run journal) m → HasOneReply journal m
+
+-- the sum of an endpoint that adds is that of what ran there
+abbrev pub SumsAreOfRuns : Type 0
+SumsAreOfRuns = (s : ScenarioLists) (journal : List Entry) (e : EndpointId) → IsRun s journal → Adds s e → IsSumOfRuns journal e
+
+-- where as many requests ran there as the script asks for, it is that of all
+abbrev pub first_of : Words → ℕ
+first_of words = words.a
+
+abbrev pub WholeSums : Type 0
+WholeSums =
+    (s : ScenarioLists) (journal : List Entry) (e : EndpointId) → IsRun s journal → Adds s e → length (runs_at journal e) ≡ length (words_asked s.script) → sum_at journal e ≡ sum_by first_of (words_asked s.script) % 2 ^ 64
+
+-- every request that the script asks for has its end
+abbrev pub EachRequestHasItsEnd : Type 0
+EachRequestHasItsEnd = (s : ScenarioLists) (journal : List Entry) → IsRun s journal → AddUp s.script journal
+
+-- what ran has the words of a request that the script asks for
+abbrev pub WhatRanWasAskedFor : Type 0
+WhatRanWasAskedFor =
+    (s : ScenarioLists) (journal : List Entry) (m : Message) → IsRun s journal → Contains (requests_run journal) m → Contains (words_asked s.script) m.words

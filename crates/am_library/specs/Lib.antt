@@ -1,0 +1,6 @@
+pub mod Runs
+pub mod Views
+pub mod Ends
+pub mod Laws
+pub mod Drafts
+pub mod Accounts

@@ -1,0 +1,58 @@
+-- What a library sees of the journal of a run.
+use Rattle.std.specs.Prelude.{ℕ, Bool, Option, Some, None, List, filter, filter_map, find, fold, replicate, slice_set, if◌then◌else◌}
+use Rattle.am_names.specs.declared.EndpointId.{EndpointId}
+use Rattle.am_names.specs.declared.Message.{Message}
+use Rattle.am_names.specs.declared.Serial.{Serial}
+use Rattle.am_names.specs.Names.{is_request, same_end}
+use Rattle.am_office_entries.specs.declared.Call.TheVariants as Calls
+use Rattle.am_office_entries.specs.declared.Entry.{Entry}
+use Rattle.am_office_entries.specs.declared.Event.{Event}
+use Rattle.am_office_entries.specs.declared.Event.TheVariants as Events
+use Rattle.am_office_entries.specs.declared.Outcome.{Outcome}
+use Rattle.am_office_entries.specs.declared.Outcome.TheVariants as Out
+use Rattle.am_office_entries.specs.Entries.{accepted_of, run_of}
+use Rattle.am_model.specs.Calls.{sum_after}
+use Rattle.am_model.specs.Changes.{kind_run}
+use Rattle.am_model.specs.PostOffice.{is_about}
+use Rattle.am_library.specs.declared.sums.Summing.{Summing}
+
+-- the requests that were accepted, in order
+abbrev pub requests_sent : List Entry → List Message
+requests_sent journal = filter is_request (filter_map accepted_of journal)
+
+-- the requests that ran, in order
+abbrev pub requests_run : List Entry → List Message
+requests_run journal = filter is_request (filter_map run_of journal)
+
+abbrev pub is_to : EndpointId → Message → Bool
+is_to e m = same_end e m.dest
+
+-- the requests that ran at an endpoint, in order: each runs at its destination
+abbrev pub runs_at : List Entry → EndpointId → List Message
+runs_at journal e = filter (is_to e) (requests_run journal)
+
+-- the reply to a request, where the endpoint that made the request ran it: it is the message about the request that ran
+abbrev pub reply_to : List Entry → Serial → Option Message
+reply_to journal s = find (is_about s) (filter_map run_of journal)
+
+-- ---- the sum of an endpoint, with the handlers that are set there
+
+-- before the first entry
+abbrev pub unsummed : Summing
+unsummed = record { kinds = replicate 16 None; sum = 0 }
+
+-- after an entry
+abbrev pub summed_by : EndpointId → Summing → Event → Outcome → Summing
+summed_by e t (Events.Call actor end (Calls.SetHandler index kind)) Out.Done = record t { kinds = if same_end e end then slice_set t.kinds index (Some kind) else t.kinds }
+summed_by e t (Events.Call actor end Calls.Poll) (Out.Ran m handler sends) = record t { sum = if same_end e end then sum_after (kind_run t.kinds handler) m.words t.sum else t.sum }
+summed_by e t event outcome = t
+
+abbrev pub summed : EndpointId → Summing → Entry → Summing
+summed e t x = summed_by e t x.event x.outcome
+
+abbrev pub summing : List Entry → EndpointId → Summing
+summing journal e = fold (summed e) unsummed journal
+
+-- the sum that an endpoint has after the journal's entries
+abbrev pub sum_at : List Entry → EndpointId → ℕ
+sum_at journal e = (summing journal e).sum

@@ -1,0 +1,16 @@
+//! What a library over the layer is made of: a scenario made in code, what runs it, what is seen of a run, and the laws of delivery in
+//! a library's words.
+#![tactic(auto)]
+
+mod account;
+mod draft;
+pub mod laws;
+mod runner;
+mod runs;
+mod sums;
+
+pub use account::Account;
+pub use draft::{Draft, DraftFault, Setting};
+pub use runner::{AtOnce, BySeed, DrainAlone, Finished, RunFault, RunJournal, Runner};
+pub use runs::runs_at;
+pub use sums::sum_at;
