@@ -54,6 +54,14 @@ def end_lines(pool, end):
         yield f"received {message_word(message)}"
 
 
+def messages_named(end):
+    """The messages that the lines of an endpoint name."""
+    if end.place == "disk":
+        return set()
+    lists = (end.replies, end.requests, end.in_flight, end.notices)
+    return {record.serial for record in end.records} | {it.message.serial for held in lists for it in held} | {it.serial for it in end.received}
+
+
 def channel_lines(cluster, node, peer, number):
     """The lines of the two ends that a node has of a channel."""
     sender = cluster.senders.get((node, peer, number))
@@ -72,7 +80,11 @@ class States:
         self.cluster = Cluster(self.scenario)
         self.calls = {thread: [call for it, call in self.scenario.script if it == thread] for thread in self.scenario.threads}
         self.made = dict.fromkeys(self.calls, 0)
+        # of each link the numbers of the packets that were received, in order
         self.received = {}
+        # the endpoints of which a disk has an image, and the lines in which messages were accepted
+        self.written = {id for id, it in self.scenario.ends.items() if it.disk}
+        self.accepted_in = {}
         lines = text.splitlines()
         self.journal = lines[2:2 + int(lines[1].split()[1])]
 
@@ -83,7 +95,7 @@ class States:
             self.made[int(words[0][1:])] += words[1] != "want"
         if words[1] == "receive":
             link = (int(words[2]), int(words[0][1:]))
-            self.received[link] = self.received.get(link, 0) + 1
+            self.received.setdefault(link, []).append(int(words[3]))
         if words[1] == "want":
             self.cluster.want(words[0], int(words[2]))
         elif words[0][0] == "t":
@@ -92,6 +104,10 @@ class States:
             self.cluster.apply(words)
         if self.cluster.lines[-1] != line:
             raise ValueError(f"the rules make '{self.cluster.lines[-1]}', not '{line}'")
+        if words[1] == "pageout" and line.endswith(" -> ok"):
+            self.written.add(int(words[2]))
+        for serial in self.cluster.accepted:
+            self.accepted_in.setdefault(serial, len(self.cluster.lines) + 2)
 
     def lines(self):
         """The lines of the state."""
@@ -99,9 +115,18 @@ class States:
         for end in cluster.ends.values():
             for line in end_lines(scenario.pool, end):
                 yield f"endpoint {end.id} {line}"
-        if scenario.network == "direct":
-            return
+        if scenario.network == "packet":
+            yield from self.packet_lines()
+        for serial, line in self.accepted_in.items():
+            if any(serial in messages_named(end) for end in cluster.ends.values()):
+                yield f"message {serial_word(serial)} line {line}"
+
+    def packet_lines(self):
+        """What there is on the packet network alone."""
+        scenario, cluster = self.scenario, self.cluster
         nodes = range(scenario.nodes)
+        for node in nodes:
+            yield from self.store_lines(node)
         for node in nodes:
             for peer in nodes:
                 for number in range(scenario.channels):
@@ -110,9 +135,38 @@ class States:
             for peer in nodes:
                 sent = len(cluster.sent.get((node, peer), []))
                 if sent:
-                    yield f"link {node} to {peer} sent {sent} received {self.received.get((node, peer), 0)}"
+                    received = self.received.get((node, peer), [])
+                    yield f"link {node} to {peer} sent {sent} received {len(received)}"
+                    left = self.unreceived((node, peer), received)
+                    if left:
+                        yield " ".join(["link", str(node), "to", str(peer), "unreceived", *map(str, left)])
         for thread in sorted(self.calls):
             yield self.thread_line(thread)
+
+    def store_lines(self, node):
+        """The frames of a node that are held, and the images on its disk."""
+        own = [end for end in self.cluster.ends.values() if end.node == node]
+        for frame in range(self.scenario.frames):
+            for end in own:
+                if end.place == frame:
+                    yield f"node {node} frame {frame} holds {end.id}"
+        for end in own:
+            if end.id in self.written:
+                yield f"node {node} disk holds {end.id}" + ("" if end.place == "disk" else " old")
+
+    def unreceived(self, link, received):
+        """The packets of a link that the plan released and that were not received, in the order in which they were released."""
+        released, late = [], []
+        for number in range(1, len(self.cluster.sent[link]) + 1):
+            fault, by = self.scenario.plan.get((*link, number), ("", 0))
+            released += [number] * {"lose": 0, "late": 0, "repeat": 2}.get(fault, 1)
+            released += [earlier for earlier, due in late if due == number]
+            if fault == "late":
+                late.append((number, number + by))
+        for number in received:
+            if number in released:
+                released.remove(number)
+        return released
 
     def thread_line(self, thread):
         left = self.calls[thread][self.made[thread]:]

@@ -61,3 +61,11 @@ front_fits form s lawful bytes few n f =
     let low = t.low in
     let within = f.within in
     omega (arith, low, within, few)
+
+-- what stands there is short
+pub front_short : (form : Form) (s : ScenarioLists) → IsLawful s → (bytes : List ℕ) → length bytes < 2 ^ 31 → (n : ℕ) → (f : IsFrontOf form s bytes n) →
+    (journal : List Entry) → journal ≡ take n f.report.journal → length journal < 2 ^ 31
+front_short form s lawful bytes few n f journal is =
+    let fits = front_fits form s lawful bytes few n f in
+    let long = ap (length {A = Entry}) is ∙ length-take-le n f.report.journal f.within in
+    omega (arith, fits, long)

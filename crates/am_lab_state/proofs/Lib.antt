@@ -4,3 +4,5 @@ pub mod Following
 pub mod Fronting
 pub mod Holding
 pub mod Reading
+pub mod Taking
+pub mod Writing

@@ -1,7 +1,9 @@
 pub mod Ends
+pub mod Nodes
 pub mod Channels
 pub mod Links
 pub mod Threads
+pub mod Messages
 pub mod Texts
 pub mod Fronts
 pub mod Differences
