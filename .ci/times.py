@@ -15,8 +15,8 @@ import time
 # The file of what an earlier whole run took, with the same lines.
 EARLIER = "bench/gate.txt"
 KINDS = ("proof", "tests", "edits")
-# The most that a whole run may take, in seconds of processor time: all of it, the edits with their checks, and `am2_lab` with what only it uses.
-MOST = {"all": 8_500, "edits": 2_300, "the lab": 1_700}
+# The most that a whole run may take, in seconds of processor time: all of it, and the edits with their checks.
+MOST = {"all": 9_000, "edits": 2_300}
 
 TICK = os.sysconf("SC_CLK_TCK")
 
@@ -121,7 +121,7 @@ def lab():
 
 
 def sums_of(times):
-    """What `MOST` bounds, of these times."""
+    """The sums that are told: of all, of the edits with their checks, and of `am2_lab` with what only it uses."""
     own = lab()
     return {
         "all": sum(times.values()),
@@ -145,7 +145,7 @@ def tell(file):
         crates[name] = crates.get(name, 0) + seconds
     print("dearest:", ", ".join(f"{name} {crates[name]}" for name in sorted(crates, key=lambda name: -crates[name])[:10]))
     took = sums_of(earlier)
-    print(f"{EARLIER}:", ", ".join(f"{what} {took[what]} of at most {most}" for what, most in MOST.items()))
+    print(f"{EARLIER}:", ", ".join(f"{what} {seconds}" + (f" of at most {MOST[what]}" if what in MOST else "") for what, seconds in took.items()))
     return 1 if any(took[what] > most for what, most in MOST.items()) else 0
 
 
