@@ -1,6 +1,7 @@
 -- The sum of an endpoint that adds is that of the first words of the requests that ran there.
 use Rattle.std.specs.Prelude.{MatchOption, not, is_none, filter, nat_lt, replicate, slice_set, sum_by}
-use Rattle.std.proofs.Common.{◌≡◌, ℕ, ◌+◌, ◌%◌, ◌^◌, ◌<◌, ◌≤◌, Bool, true, false, ◌&&◌, ◌||◌, List, [], ◌∷◌, ◌++◌, Option, Some, None, refl, sym, ap, ◌∙◌, subst}
+use Rattle.std.proofs.Common.{◌≡◌, ℕ, ◌+◌, ◌%◌, ◌^◌, ◌<◌, ◌≤◌, Bool, true, false, ◌&&◌, ◌||◌, List, [], ◌∷◌, ◌++◌, Option, Some, None, refl, sym, ap, ◌∙◌}
+use Rattle.std.proofs.Common.{subst}
 use Rattle.std.proofs.Common.{◌⊎◌, inl, inr, ⊎_elim, filter_map, get_or, length, ltb-true, ltb-false, if◌then◌else◌, arith}
 use Rattle.std.specs.List.{Contains, find, list_all, list_any}
 use Rattle.std.proofs.lemmas.Bool.{and_from, and_parts, cases_lt}
@@ -226,13 +227,15 @@ is_unset kinds m = is_request m && is_none (entry_at kinds m.handler)
 abbrev HasHandler : List (Option HandlerKind) → Message → Type 0
 HasHandler kinds m = is_unset kinds m ≡ false
 
-still_set : (request : Bool) (o p : Option HandlerKind) → (is_none o ≡ false → is_none p ≡ false) → (request && is_none o) ≡ false → (request && is_none p) ≡ false
+still_set : (request : Bool) (o p : Option HandlerKind) → (is_none o ≡ false → is_none p ≡ false) → (request && is_none o) ≡ false →
+    (request && is_none p) ≡ false
 still_set true o p keeps is = keeps is
 still_set false o p keeps is = refl
 
 stays_set : (kinds : List (Option HandlerKind)) (at : ℕ) (kind : HandlerKind) (m : Message) → HasHandler kinds m → HasHandler (slice_set kinds at (Some kind)) m
 stays_set kinds at kind m is =
-    still_set (is_request m) (entry_at kinds m.handler) (entry_at (slice_set kinds at (Some kind)) m.handler) (λ (old : is_none (entry_at kinds m.handler) ≡ false).
+    still_set (is_request m) (entry_at kinds m.handler) (entry_at (slice_set kinds at (Some kind)) m.handler) (λ (old : is_none
+        (entry_at kinds m.handler) ≡ false).
     set_at kinds at (Some kind) (λ (o : Option HandlerKind). is_none o ≡ false) m.handler old refl) is
 
 -- a call leaves the handlers, or sets one
@@ -252,7 +255,8 @@ called_set s c o m is = is
 changed_set : (e : EndpointId) (s : State) (event : Event) (o : Outcome) (m : Message) → HasHandler s.body.handlers m →
     HasHandler (changed e s event o).body.handlers m
 changed_set e s (Events.Call actor end call) o m is = called_set s call o m is
-changed_set e s event o m is = subst (λ (kinds : List (Option HandlerKind)). HasHandler kinds m) (sym (ap (λ (w : Own). w.handlers) (own_kept e s event o refl))) is
+changed_set e s event o m is =
+    subst (λ (kinds : List (Option HandlerKind)). HasHandler kinds m) (sym (ap (λ (w : Own). w.handlers) (own_kept e s event o refl))) is
 
 -- ---- what runs adds
 
@@ -276,7 +280,8 @@ request_set : (request : Bool) (o : Option HandlerKind) → request ≡ true →
 request_set true o is set = set
 request_set false o is set = absurd (cc)
 
-own_handler : (m : Message) (handler : Option ℕ) (reply : Message) → is_request m ≡ true → RunsOwnHandler (Out.Ran m handler (Some reply)) → handler ≡ Some m.handler
+own_handler : (m : Message) (handler : Option ℕ) (reply : Message) → is_request m ≡ true → RunsOwnHandler (Out.Ran m handler (Some reply)) →
+    handler ≡ Some m.handler
 own_handler m None reply is own = let never : false ≡ true = sym (ap (λ (b : Bool). if b then false else true) is) ∙ own in absurd (cc)
 own_handler m (Some handler) reply is own = ap (λ (n : ℕ). Some n) own
 
@@ -309,7 +314,8 @@ called_sum : (s : ScenarioLists) (e : EndpointId) (past : List Entry) (t : State
     (((called t call o).body.sum ≡ t.body.sum) × (of (adds_word e) (run_in (Events.Call actor end call) o) ≡ 0))
 called_sum s e past t actor end Calls.Poll (Out.Ran m handler (Some reply)) at adds set sends fits runs =
     let here = runs m refl in
-    let held = polled_run (HasHandler t.body.handlers) end t m set t.body.notices (ap (λ (w : Outcome). run_in (Events.Call actor end Calls.Poll) w) (sym fits)) in
+    let held = polled_run (HasHandler t.body.handlers) end t m set t.body.notices (ap (λ (w : Outcome). run_in (Events.Call actor end Calls.Poll) w)
+        (sym fits)) in
     let some : is_none (entry_at t.body.handlers m.handler) ≡ false =
     request_set (is_request m) (entry_at t.body.handlers m.handler) sends.0 held.held in
     let weight : adds_word e m ≡ m.words.a =
@@ -415,10 +421,12 @@ sums_step s e past x so_far goes = record {
         ReceivedAre (HasHandler (state_of (layout_of s) (past ++ x ∷ []) e).body.handlers) (state_of (layout_of s) (past ++ x ∷ []) e)
     set' true at =
         subst (λ (w : State). ReceivedAre (HasHandler w.body.handlers) w) (sym (state_of_push (layout_of s) past x e true at))
-        (held_kept (HasHandler (changed e (state_of (layout_of s) past e) x.event x.outcome).body.handlers) e (state_of (layout_of s) past e) x.event x.outcome at
+        (held_kept (HasHandler (changed e (state_of (layout_of s) past e) x.event x.outcome).body.handlers) e (state_of
+            (layout_of s) past e) x.event x.outcome at
         (all_map (HasHandler (state_of (layout_of s) past e).body.handlers)
         (HasHandler (changed e (state_of (layout_of s) past e) x.event x.outcome).body.handlers) (state_of (layout_of s) past e).body.received
-        (λ (m : Message) (is : HasHandler (state_of (layout_of s) past e).body.handlers m). changed_set e (state_of (layout_of s) past e) x.event x.outcome m is)
+        (λ (m : Message) (is : HasHandler (state_of (layout_of s) past e).body.handlers m). changed_set e (state_of
+            (layout_of s) past e) x.event x.outcome m is)
         so_far.set)
         (λ (m : Message) (is : put_in x.event x.outcome ≡ Some m) (to : same_end e m.dest ≡ true).
         changed_set e (state_of (layout_of s) past e) x.event x.outcome m (welcome m is to)))
@@ -477,8 +485,10 @@ sums_begin s e = by_setting (find (has_id e) (layout_of s).ends) refl
 
         set' : (setting : Option EndSetting) → find (has_id e) (layout_of s).ends ≡ setting →
             ReceivedAre (HasHandler (state_of (layout_of s) [] e).body.handlers) (state_of (layout_of s) [] e)
-        set' None is = subst (λ (w : Option EndSetting). ReceivedAre (HasHandler (opening_by (layout_of s) w).body.handlers) (opening_by (layout_of s) w)) (sym is) tt
-        set' (Some setting) is = subst (λ (w : Option EndSetting). ReceivedAre (HasHandler (opening_by (layout_of s) w).body.handlers) (opening_by (layout_of s) w))
+        set' None is = subst (λ (w : Option EndSetting). ReceivedAre (HasHandler (opening_by (layout_of s) w).body.handlers) (opening_by (layout_of s) w))
+            (sym is) tt
+        set' (Some setting) is =
+            subst (λ (w : Option EndSetting). ReceivedAre (HasHandler (opening_by (layout_of s) w).body.handlers) (opening_by (layout_of s) w))
             (sym is) tt
 
         sum' : (setting : Option EndSetting) → find (has_id e) (layout_of s).ends ≡ setting → (state_of (layout_of s) [] e).body.sum ≡ 0 % 2 ^ 64

@@ -103,7 +103,8 @@ whole_made f s (x ∷ journal) run =
     let parts = and_parts (is_of_run s x.event) (list_all (λ (y : Entry). is_of_run s y.event) journal) run in
     by_call (made x) refl parts.0 (whole_made f s journal parts.1)
   where
-    by_call : (o : Option ScriptCall) → made x ≡ o → is_of_run s x.event ≡ true → part f s.threads (filter_map made journal) ≡ sum_by f (filter_map made journal) →
+    by_call : (o : Option ScriptCall) → made x ≡ o → is_of_run s x.event ≡ true →
+        part f s.threads (filter_map made journal) ≡ sum_by f (filter_map made journal) →
         part f s.threads (filter_map made (x ∷ journal)) ≡ sum_by f (filter_map made (x ∷ journal))
     by_call None is own so_far =
         let none : of (λ (c : ScriptCall). only (is_in s.threads c.thread) (f c)) (made x) ≡ 0 =

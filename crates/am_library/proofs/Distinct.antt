@@ -74,7 +74,8 @@ none_before x m xs once has same =
 pub at_most : (p : Message → Bool) (f : Message → ℕ) (xs ys : List Message) → Once xs → ((y : Message) → p y ≡ true → Contains xs y → Contains ys y) →
     sum_by (λ (m : Message). only (p m) (f m)) xs ≤ sum_by (λ (m : Message). only (p m) (f m)) ys
 at_most p f [] ys once all = omega arith
-at_most p f (m ∷ xs) ys once all = by_test (p m) refl (λ (zs : List Message) (in_zs : (y : Message) → p y ≡ true → Contains xs y → Contains zs y). at_most p f xs
+at_most p f (m ∷ xs) ys once all = by_test (p m) refl (λ (zs : List Message) (in_zs : (y : Message) → p y ≡ true → Contains xs y →
+    Contains zs y). at_most p f xs
     zs (once_tail m xs once) in_zs)
   where
     by_place : p m ≡ true → ((zs : List Message) → ((y : Message) → p y ≡ true → Contains xs y → Contains zs y) →

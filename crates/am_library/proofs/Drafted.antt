@@ -1,5 +1,6 @@
 -- A draft stays lawful.
-use Rattle.std.proofs.Common.{◌≡◌, ◌≢◌, ℕ, ◌+◌, ◌<◌, ◌≤◌, ◌^◌, Bool, true, false, ◌||◌, List, [], ◌∷◌, ◌++◌, length, Option, Some, None, Result, Ok, Err, refl, sym, ap, ◌∙◌, subst, arith}
+use Rattle.std.proofs.Common.{◌≡◌, ◌≢◌, ℕ, ◌+◌, ◌<◌, ◌≤◌, ◌^◌, Bool, true, false, ◌||◌, List, [], ◌∷◌, ◌++◌, length, Option, Some, None, Result, Ok, Err}
+use Rattle.std.proofs.Common.{refl, sym, ap, ◌∙◌, subst, arith}
 use Rattle.std.specs.Prelude.{◌==◌, ◌&&◌, not, nat_le, find, count_by, is_none, if◌then◌else◌, IsSome, OnErr, OnOk}
 use Rattle.std.specs.List.{All, AllPairs, list_any}
 use Rattle.std.specs.Option.{option_map}
@@ -29,15 +30,19 @@ use Rattle.am_scenario_types.specs.declared.parts.FaultLine.{FaultLine}
 use Rattle.am_scenario_types.specs.declared.parts.ThreadLine.{ThreadLine}
 use Rattle.am_scenario_types.specs.declared.parts.ScriptCall.{ScriptCall}
 use Rattle.am_scenario_types.specs.declared.parts.StepLine.{StepLine}
-use Rattle.am_scenario_types.specs.Lawful.{HasLawfulSettings, IsDeclared, IsLawful, IsLawfulBundle, IsLawfulCall, IsLawfulEnd, IsLawfulEvent, IsLawfulFault, IsLawfulFaultLine, IsLawfulKind}
-use Rattle.am_scenario_types.specs.Lawful.{IsLawfulPlanLine, IsLawfulScriptCall, IsLawfulThread, IsOn, IsSamePageCall, IsSamePlace, IsWithin, least_credits, node_of, thread_node}
+use Rattle.am_scenario_types.specs.Lawful.{HasLawfulSettings, IsDeclared, IsLawful, IsLawfulBundle, IsLawfulCall, IsLawfulEnd, IsLawfulEvent, IsLawfulFault}
+use Rattle.am_scenario_types.specs.Lawful.{IsLawfulFaultLine, IsLawfulKind}
+use Rattle.am_scenario_types.specs.Lawful.{IsLawfulPlanLine, IsLawfulScriptCall, IsLawfulThread, IsOn, IsSamePageCall, IsSamePlace, IsWithin, least_credits}
+use Rattle.am_scenario_types.specs.Lawful.{node_of, thread_node}
 use Rattle.am_scenario_types.specs.Lists.{ScenarioLists}
 use Rattle.am_library.specs.declared.draft.DraftFault.{DraftFault}
 use Rattle.am_library.specs.declared.draft.DraftFault.TheVariants as Fault
 use Rattle.am_library.specs.declared.draft.Setting.{Setting}
 use Rattle.am_library.specs.declared.draft.Setting.TheVariants as Set
-use Rattle.am_library.specs.Drafts.{IsDraft, IsTyped, are_together, call_fault, end_fault, end_line, ends_on, is_good_call, is_good_fault, is_good_kind, is_good_setting, is_same_packet}
-use Rattle.am_library.specs.Drafts.{is_within, names_nothing, plan_fault, setting_fault, start_fault, started, thread_fault, thread_line, threads_on, with_call, with_end}
+use Rattle.am_library.specs.Drafts.{IsDraft, IsTyped, are_together, call_fault, end_fault, end_line, ends_on, is_good_call, is_good_fault, is_good_kind}
+use Rattle.am_library.specs.Drafts.{is_good_setting, is_same_packet}
+use Rattle.am_library.specs.Drafts.{is_within, names_nothing, plan_fault, setting_fault, start_fault, started, thread_fault, thread_line, threads_on}
+use Rattle.am_library.specs.Drafts.{with_call, with_end}
 use Rattle.am_library.specs.Drafts.{with_plan, with_setting, with_thread}
 
 -- ---- no condition holds
@@ -493,17 +498,26 @@ plan_kept s line d none =
 -- ---- a setting
 
 settings_kept : (s : ScenarioLists) (setting : Setting) → HasLawfulSettings s → is_good_setting setting ≡ true → HasLawfulSettings (with_setting s setting)
-settings_kept s (Set.Frames n) h good = record { nodes = h.nodes; frames = within 2 16 n good; channels = h.channels; tries = h.tries; bounces = h.bounces; pool = h.pool; keep = h.keep; log = h.log; turns = h.turns }
-settings_kept s (Set.Channels n) h good = record { nodes = h.nodes; frames = h.frames; channels = within 1 4 n good; tries = h.tries; bounces = h.bounces; pool = h.pool; keep = h.keep; log = h.log; turns = h.turns }
-settings_kept s (Set.Tries n) h good = record { nodes = h.nodes; frames = h.frames; channels = h.channels; tries = within 2 16 n good; bounces = h.bounces; pool = h.pool; keep = h.keep; log = h.log; turns = h.turns }
-settings_kept s (Set.Bounces n) h good = record { nodes = h.nodes; frames = h.frames; channels = h.channels; tries = h.tries; bounces = leb-true n 16 good; pool = h.pool; keep = h.keep; log = h.log; turns = h.turns }
-settings_kept s (Set.Keep n) h good = record { nodes = h.nodes; frames = h.frames; channels = h.channels; tries = h.tries; bounces = h.bounces; pool = h.pool; keep = leb-true n 64 good; log = h.log; turns = h.turns }
-settings_kept s (Set.Log n) h good = record { nodes = h.nodes; frames = h.frames; channels = h.channels; tries = h.tries; bounces = h.bounces; pool = h.pool; keep = h.keep; log = within 1 65_536 n good; turns = h.turns }
-settings_kept s (Set.Turns n) h good = record { nodes = h.nodes; frames = h.frames; channels = h.channels; tries = h.tries; bounces = h.bounces; pool = h.pool; keep = h.keep; log = h.log; turns = leb-true n 10_000 good }
+settings_kept s (Set.Frames n) h good = record { nodes = h.nodes; frames = within 2 16 n good; channels = h.channels; tries = h.tries; bounces = h.bounces;
+    pool = h.pool; keep = h.keep; log = h.log; turns = h.turns }
+settings_kept s (Set.Channels n) h good = record { nodes = h.nodes; frames = h.frames; channels = within 1 4 n good; tries = h.tries; bounces = h.bounces;
+    pool = h.pool; keep = h.keep; log = h.log; turns = h.turns }
+settings_kept s (Set.Tries n) h good = record { nodes = h.nodes; frames = h.frames; channels = h.channels; tries = within 2 16 n good; bounces = h.bounces;
+    pool = h.pool; keep = h.keep; log = h.log; turns = h.turns }
+settings_kept s (Set.Bounces n) h good = record { nodes = h.nodes; frames = h.frames; channels = h.channels; tries = h.tries; bounces = leb-true n 16 good;
+    pool = h.pool; keep = h.keep; log = h.log; turns = h.turns }
+settings_kept s (Set.Keep n) h good = record { nodes = h.nodes; frames = h.frames; channels = h.channels; tries = h.tries; bounces = h.bounces;
+    pool = h.pool; keep = leb-true n 64 good; log = h.log; turns = h.turns }
+settings_kept s (Set.Log n) h good = record { nodes = h.nodes; frames = h.frames; channels = h.channels; tries = h.tries; bounces = h.bounces;
+    pool = h.pool; keep = h.keep; log = within 1 65_536 n good; turns = h.turns }
+settings_kept s (Set.Turns n) h good = record { nodes = h.nodes; frames = h.frames; channels = h.channels; tries = h.tries; bounces = h.bounces;
+    pool = h.pool; keep = h.keep; log = h.log; turns = leb-true n 10_000 good }
 
 -- what a draft has but for its settings
-draft_with : (s t : ScenarioLists) → t ≡ record s { frames = t.frames; channels = t.channels; tries = t.tries; bounces = t.bounces; keep = t.keep; log = t.log; turns = t.turns } →
-    IsDraft s → HasLawfulSettings t → IsDraft (record s { frames = t.frames; channels = t.channels; tries = t.tries; bounces = t.bounces; keep = t.keep; log = t.log; turns = t.turns })
+draft_with : (s t : ScenarioLists) →
+    t ≡ record s { frames = t.frames; channels = t.channels; tries = t.tries; bounces = t.bounces; keep = t.keep; log = t.log; turns = t.turns } →
+    IsDraft s → HasLawfulSettings t →
+        IsDraft (record s { frames = t.frames; channels = t.channels; tries = t.tries; bounces = t.bounces; keep = t.keep; log = t.log; turns = t.turns })
 draft_with s t is d settings =
     let l = d.lawful in
     record {

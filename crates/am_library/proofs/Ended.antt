@@ -1,5 +1,6 @@
 -- Every request of a script has its end.
-use Rattle.std.proofs.Common.{◌≡◌, ◌≢◌, ℕ, ◌+◌, ◌≤◌, Bool, true, false, ◌&&◌, Option, Some, None, List, [], ◌∷◌, ◌++◌, refl, sym, ap, ◌∙◌, subst, map, filter_map}
+use Rattle.std.proofs.Common.{◌≡◌, ◌≢◌, ℕ, ◌+◌, ◌≤◌, Bool, true, false, ◌&&◌, Option, Some, None, List, [], ◌∷◌, ◌++◌, refl, sym, ap, ◌∙◌, subst, map}
+use Rattle.std.proofs.Common.{filter_map}
 use Rattle.std.proofs.Common.{if◌then◌else◌, arith}
 use Rattle.std.specs.Prelude.{MatchOption, filter, sum_by}
 use Rattle.std.specs.List.{Contains, cons_option, list_all, list_any}
@@ -48,7 +49,8 @@ use Rattle.am_library.proofs.Weights.{of, only, sum_filter, sum_listed, sum_map,
 
 -- ---- what was accepted has one of three ends
 
-count_one : (p : Entry → Bool) (x : Entry) (xs : List Entry) → sum_by (λ (y : Entry). only (p y) 1) (x ∷ xs) ≡ only (p x) 1 + sum_by (λ (y : Entry). only (p y) 1) xs
+count_one : (p : Entry → Bool) (x : Entry) (xs : List Entry) →
+    sum_by (λ (y : Entry). only (p y) 1) (x ∷ xs) ≡ only (p x) 1 + sum_by (λ (y : Entry). only (p y) 1) xs
 count_one p x xs = sum_by-cons (λ (y : Entry). only (p y) 1) x xs
 
 caused : (b : Bool) (cause found : Cause) → cause_if b cause ≡ Some found → b ≡ true

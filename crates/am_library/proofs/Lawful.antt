@@ -1,5 +1,6 @@
 -- The laws of a library, from those of runs.
-use Rattle.std.proofs.Common.{◌≡◌, ◌≢◌, ◌⊎◌, inl, inr, ℕ, zero, suc, ◌+◌, ◌%◌, ◌^◌, ◌<◌, ◌≤◌, Bool, true, false, ◌&&◌, Option, Some, None, List, [], ◌∷◌, refl, sym, ap, ◌∙◌, subst}
+use Rattle.std.proofs.Common.{◌≡◌, ◌≢◌, ◌⊎◌, inl, inr, ℕ, zero, suc, ◌+◌, ◌%◌, ◌^◌, ◌<◌, ◌≤◌, Bool, true, false, ◌&&◌, Option, Some, None, List, [], ◌∷◌}
+use Rattle.std.proofs.Common.{refl, sym, ap, ◌∙◌, subst}
 use Rattle.std.proofs.Common.{get_or, length, map, count_by, filter_map, if◌then◌else◌, arith, eqb-true, eq-eqb}
 use Rattle.std.specs.Prelude.{◌==◌, MatchOption, filter, sum_by}
 use Rattle.std.specs.List.{Contains}
@@ -39,7 +40,8 @@ only_less true n = omega arith
 only_less false n = omega arith
 
 -- requests that ran are no more than what ran
-requests_few : (serial : Serial) (journal : List Entry) → count_by (has_serial serial) (requests_run journal) ≤ count_by (has_serial serial) (filter_map run_of journal)
+requests_few : (serial : Serial) (journal : List Entry) →
+    count_by (has_serial serial) (requests_run journal) ≤ count_by (has_serial serial) (filter_map run_of journal)
 requests_few serial journal =
     let ran : List Message = filter_map run_of journal in
     let one : Message → ℕ = λ (m : Message). only (has_serial serial m) 1 in
@@ -52,7 +54,8 @@ requests_few serial journal =
 pub runs_at_most_once : RunsAtMostOnce
 runs_at_most_once s journal run serial = omega (arith, requests_few serial journal, runs_once (layout_of s) journal run.obeys.laws serial)
 
-by_fate : (journal : List Entry) (serial : Serial) (f : Option Fate) → fate journal serial ≡ f → f ≢ None → f ≢ Some Fates.Unknown → f ≢ Some Fates.UnknownButRan →
+by_fate : (journal : List Entry) (serial : Serial) (f : Option Fate) → fate journal serial ≡ f → f ≢ None → f ≢ Some Fates.Unknown →
+    f ≢ Some Fates.UnknownButRan →
     f ≢ Some Fates.Pending → ((cause : Cause) → f ≡ Some (Fates.Returned cause) → is_transient cause ≡ false) → RanOrCameBack journal serial
 by_fate journal serial None is some unknown unknown_ran pending good = absurd (some refl)
 by_fate journal serial (Some Fates.Ran) is some unknown unknown_ran pending good = inl is

@@ -1,5 +1,6 @@
 -- What ran at an endpoint, entry by entry.
-use Rattle.std.proofs.Common.{◌≡◌, ℕ, ◌+◌, ◌<◌, Bool, true, false, ◌&&◌, cond, Option, Some, None, List, [], ◌∷◌, ◌++◌, refl, sym, ap, ◌∙◌, length, take, get_or, filter_map}
+use Rattle.std.proofs.Common.{◌≡◌, ℕ, ◌+◌, ◌<◌, Bool, true, false, ◌&&◌, cond, Option, Some, None, List, [], ◌∷◌, ◌++◌, refl, sym, ap, ◌∙◌, length, take}
+use Rattle.std.proofs.Common.{get_or, filter_map}
 use Rattle.std.specs.Prelude.{filter, fold, option_to_list}
 use Rattle.std.specs.Borrow.{Bor}
 use Rattle.std.specs.List.{cons_option}
@@ -43,7 +44,8 @@ pub runs_same : (xs : List (Bor Entry)) (e : EndpointId) (i : ℕ) (d : Bor Entr
 runs_same xs e i d runs below so_far here = runs_next xs e i d None runs runs below so_far here (sym (append-nil runs))
 
 -- the request that one entry runs at an endpoint
-kept : (e : EndpointId) (m : Message) (a b : Bool) → is_request m ≡ a → is_to e m ≡ b → filter (is_to e) (filter is_request (m ∷ [])) ≡ cond (a && b) (m ∷ []) []
+kept : (e : EndpointId) (m : Message) (a b : Bool) → is_request m ≡ a → is_to e m ≡ b →
+    filter (is_to e) (filter is_request (m ∷ [])) ≡ cond (a && b) (m ∷ []) []
 kept e m true true request to = ap (λ (t : Bool). filter (is_to e) (cond t (m ∷ []) [])) request ∙ ap (λ (t : Bool). cond t (m ∷ []) []) to
 kept e m true false request to = ap (λ (t : Bool). filter (is_to e) (cond t (m ∷ []) [])) request ∙ ap (λ (t : Bool). cond t (m ∷ []) []) to
 kept e m false b request to = ap (λ (t : Bool). filter (is_to e) (cond t (m ∷ []) [])) request

@@ -1,9 +1,11 @@
 -- Each run of a request has one reply.
-use Rattle.std.proofs.Common.{◌≡◌, ℕ, ◌+◌, ◌≤◌, Bool, true, false, Option, Some, None, List, [], ◌∷◌, ◌++◌, refl, sym, ap, ◌∙◌, subst, ⊎_elim, length, filter_map, arith}
+use Rattle.std.proofs.Common.{◌≡◌, ℕ, ◌+◌, ◌≤◌, Bool, true, false, Option, Some, None, List, [], ◌∷◌, ◌++◌, refl, sym, ap, ◌∙◌, subst, ⊎_elim, length}
+use Rattle.std.proofs.Common.{filter_map, arith}
 use Rattle.std.proofs.Common.{get_or, count_by, if◌then◌else◌}
 use Rattle.std.specs.Prelude.{MatchOption, filter, sum_by}
 use Rattle.std.specs.List.{All, Contains, cons_option}
-use Rattle.std.proofs.lemmas.List.Elements.{All-contains, All-contains_itself, All-filter, Contains-append_cases, Contains-append_left, Contains-append_right, Contains-push, filter_map-append, filter_passes}
+use Rattle.std.proofs.lemmas.List.Elements.{All-contains, All-contains_itself, All-filter, Contains-append_cases, Contains-append_left, Contains-append_right}
+use Rattle.std.proofs.lemmas.List.Elements.{Contains-push, filter_map-append, filter_passes}
 use Rattle.std.proofs.lemmas.List.Sums.{get_or-le-sum_by, length-filter, sum_by-cons, sum_by-le-sum_by}
 use Rattle.std.proofs.lemmas.Bool.{and_from}
 use Rattle.am_names.specs.declared.Message.{Message}
@@ -165,7 +167,8 @@ answers_more layout past x so_far a = λ (r : Message) (s : Serial) (has : Conta
 
 all_answer : (layout : Layout) (journal : List Entry) → PostOffice layout journal → AllAnswer journal
 all_answer layout journal laws =
-    over_each (Answering layout) AllAnswer (λ (past : List Entry) (x : Entry) (so_far : AllAnswer past) (a : Answering layout past x). answers_more layout past x
+    over_each (Answering layout) AllAnswer (λ (past : List Entry) (x : Entry) (so_far : AllAnswer past)
+        (a : Answering layout past x). answers_more layout past x
     so_far a) [] journal (λ (r : Message) (s : Serial) (has : Contains [] r) (about : r.about ≡ Some s). absurd (nothing r has))
     (answering layout [] journal laws.acceptance.as_asked laws.replies.sends)
 

@@ -51,8 +51,10 @@ touched_shown e s event o t =
 
 untouched_stays : (e : EndpointId) (t : Summing) (event : Event) (o : Outcome) → list_any (same_end e) (ends_touched event o) ≡ false →
     summed_by e t event o ≡ t
-untouched_stays e t (Events.Call actor end (Calls.SetHandler index kind)) Out.Done off = let at : same_end e end ≡ false = not_touched (same_end e end) off in rw at refl
-untouched_stays e t (Events.Call actor end Calls.Poll) (Out.Ran m handler sends) off = let at : same_end e end ≡ false = not_touched (same_end e end) off in rw at refl
+untouched_stays e t (Events.Call actor end (Calls.SetHandler index kind)) Out.Done off = let at : same_end e end ≡ false =
+    not_touched (same_end e end) off in rw at refl
+untouched_stays e t (Events.Call actor end Calls.Poll) (Out.Ran m handler sends) off = let at : same_end e end ≡ false =
+    not_touched (same_end e end) off in rw at refl
 untouched_stays e t event o off = refl
 
 abbrev IsShown : Layout → EndpointId → List Entry → Type 0

@@ -1,5 +1,6 @@
 -- A scenario in the making: what each call adds, and why it may be refused. Of the conditions of a call the first that holds is the cause.
-use Rattle.std.specs.Prelude.{◌≡◌, ℕ, ◌^◌, ◌<◌, ◌≤◌, ◌==◌, ◌&&◌, ◌||◌, Bool, true, false, not, nat_le, nat_lt, Option, Some, None, is_none, is_some, Result, Ok, Err}
+use Rattle.std.specs.Prelude.{◌≡◌, ℕ, ◌^◌, ◌<◌, ◌≤◌, ◌==◌, ◌&&◌, ◌||◌, Bool, true, false, not, nat_le, nat_lt, Option, Some, None, is_none, is_some, Result}
+use Rattle.std.specs.Prelude.{Ok, Err}
 use Rattle.std.specs.Prelude.{List, [], ◌∷◌, ◌++◌, length, count_by}
 use Rattle.std.specs.List.{All, list_any}
 use Rattle.am_names.specs.declared.EndpointId.{EndpointId}

@@ -64,17 +64,20 @@ RanOrCameBack journal serial =
 
 -- where the plan withholds nothing, each message that was accepted did one of both
 abbrev pub NothingIsLost : Type 0
-NothingIsLost = (s : ScenarioLists) (journal : List Entry) → IsRun s journal → WithholdsNothing s → (m : Message) → WasAccepted journal m → RanOrCameBack journal m.serial
+NothingIsLost = (s : ScenarioLists) (journal : List Entry) → IsRun s journal → WithholdsNothing s → (m : Message) → WasAccepted journal m →
+    RanOrCameBack journal m.serial
 
 -- what came back never ran
 abbrev pub WhatCameBackNeverRan : Type 0
 WhatCameBackNeverRan =
-    (s : ScenarioLists) (journal : List Entry) (serial : Serial) (cause : Cause) → IsRun s journal → fate journal serial ≡ Some (Fates.Returned cause) → count_by (has_serial serial) (requests_run journal) ≡ 0
+    (s : ScenarioLists) (journal : List Entry) (serial : Serial) (cause : Cause) → IsRun s journal → fate journal serial ≡ Some (Fates.Returned cause) →
+        count_by (has_serial serial) (requests_run journal) ≡ 0
 
 -- an unknown message didn't run, and one that is unknown but ran is told apart from it
 abbrev pub TheUnknownDidNotRun : Type 0
 TheUnknownDidNotRun =
-    (s : ScenarioLists) (journal : List Entry) (serial : Serial) → IsRun s journal → fate journal serial ≡ Some Fates.Unknown → count_by (has_serial serial) (requests_run journal) ≡ 0
+    (s : ScenarioLists) (journal : List Entry) (serial : Serial) → IsRun s journal → fate journal serial ≡ Some Fates.Unknown →
+        count_by (has_serial serial) (requests_run journal) ≡ 0
 
 -- a request that ran has one reply, under its tag
 abbrev pub EachRunHasOneReply : Type 0
@@ -90,7 +93,8 @@ first_of words = words.a
 
 abbrev pub WholeSums : Type 0
 WholeSums =
-    (s : ScenarioLists) (journal : List Entry) (e : EndpointId) → IsRun s journal → Adds s e → length (runs_at journal e) ≡ length (words_asked s.script) → sum_at journal e ≡ sum_by first_of (words_asked s.script) % 2 ^ 64
+    (s : ScenarioLists) (journal : List Entry) (e : EndpointId) → IsRun s journal → Adds s e → length (runs_at journal e) ≡ length (words_asked s.script) →
+        sum_at journal e ≡ sum_by first_of (words_asked s.script) % 2 ^ 64
 
 -- every request that the script asks for has its end
 abbrev pub EachRequestHasItsEnd : Type 0
