@@ -1,4 +1,5 @@
-mod Fed
 mod Linked
 mod InTurn
+mod Orders
+mod Scheduled
 mod Works

@@ -1,6 +1,7 @@
 -- Links that stay, what stands at a place after a write, and an interface that has more turns.
 use Rattle.std.specs.Prelude.{slice_get, slice_index_or, slice_set}
-use Rattle.std.proofs.Common.{◌≡◌, ◌≢◌, ◌⊎◌, inl, inr, ⊎_elim, ℕ, zero, suc, ◌<◌, ◌≤◌, List, [], ◌∷◌, length, Option, Some, refl, sym, ap, subst, arith}
+use Rattle.std.specs.List.{remove}
+use Rattle.std.proofs.Common.{◌≡◌, ◌≢◌, ◌⊎◌, inl, inr, ⊎_elim, ℕ, zero, suc, ◌<◌, ◌≤◌, List, [], ◌∷◌, length, Option, Some, refl, sym, ap, ◌∙◌, subst, arith}
 use Rattle.atomic_table.specs.Seated.{TableId}
 use Rattle.am_names.specs.declared.NodeId.{NodeId}
 use Rattle.am_scenario_types.specs.Lists.{ScenarioLists}
@@ -24,6 +25,31 @@ got_set (y ∷ xs) zero (suc k) v x h = inr ((λ q. omega (arith, q)), h)
 got_set (y ∷ xs) (suc i) zero v x h = inr ((λ q. omega (arith, q)), h)
 got_set (y ∷ xs) (suc i) (suc k) v x h = ⊎_elim (λ here. inl (ap suc here.0, here.1)) (λ there. inr ((λ q. there.0 (omega (arith, q))), there.1))
     (got_set xs i k v x h)
+
+-- where an element stood before one was taken out
+abbrev pub place_before : ℕ → ℕ → ℕ
+place_before zero k = suc k
+place_before (suc at) zero = zero
+place_before (suc at) (suc k) = suc (place_before at k)
+
+pub got_removed : {X : Type 0} (xs : List X) (at k : ℕ) (x : X) → slice_get (remove xs at) k ≡ Some x →
+    (j : ℕ) × (slice_get xs j ≡ Some x) × (j ≢ at) × (j ≡ place_before at k)
+got_removed [] zero k x h = absurd (cc)
+got_removed [] (suc at) k x h = absurd (cc)
+got_removed (y ∷ xs) zero k x h = (suc k, h, (λ q. omega (arith, q)), refl)
+got_removed (y ∷ xs) (suc at) zero x h = (zero, h, (λ q. omega (arith, q)), refl)
+got_removed (y ∷ xs) (suc at) (suc k) x h =
+    let g = got_removed xs at k x h in (suc g.0, g.1, (λ q. g.2 (omega (arith, q))), ap suc g.3)
+
+before_once : (at j k : ℕ) → place_before at j ≡ place_before at k → j ≡ k
+before_once zero j k e = omega (arith, e)
+before_once (suc at) zero zero e = refl
+before_once (suc at) zero (suc k) e = absurd (omega (arith, e))
+before_once (suc at) (suc j) zero e = absurd (omega (arith, e))
+before_once (suc at) (suc j) (suc k) e = ap suc (before_once at j k (omega (arith, e)))
+
+pub place_from : (at j k m n : ℕ) → m ≡ place_before at j → n ≡ place_before at k → m ≡ n → j ≡ k
+place_from at j k m n is_m is_n e = before_once at j k (sym is_m ∙ e ∙ is_n)
 
 pub same_got : {X : Type 0} (o : Option X) (x y : X) → o ≡ Some x → o ≡ Some y → x ≡ y
 same_got o x y a b = cc

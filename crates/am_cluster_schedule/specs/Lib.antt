@@ -1,2 +1,4 @@
 pub mod InTurn
 pub mod Lone
+pub mod Order
+pub mod Schedules

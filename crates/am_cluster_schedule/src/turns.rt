@@ -1,16 +1,18 @@
 //! The turns of all workers, one at a time.
 
 ghost use Rattle.am_cluster_crew.specs.Running.{IsThreadAt, SameCrew};
-ghost use Rattle.am_cluster_opening.specs.Crews.{AreCrews, AreLinked};
-ghost use Rattle.am_cluster_opening.specs.Node.Openings.{EndPlaces};
-ghost use Rattle.am_cluster_schedule.specs.InTurn.{AreCounted, AreInTurn, IsInTurn, IsTurnOfThread};
+ghost use Rattle.am_cluster_opening.specs.Crews.{AreCrews, AreLinked, IsCrew};
+ghost use Rattle.am_cluster_schedule.specs.InTurn.{IsRoleAt, IsTurnOfThread};
+ghost use Rattle.am_cluster_schedule.specs.Order.{first_turns, order_of};
+ghost use Rattle.am_cluster_schedule.specs.Schedules.{TakesTurns, TurnsInCrew};
+ghost use Rattle.am_cluster_schedule.specs.declared.order.Role.TheVariants as Roles;
+ghost use Rattle.am_scenario_generator.specs.Words.{seeded};
 ghost use Rattle.am_scenario_types.specs.Lawful.{IsLawful};
 ghost use Rattle.am_scenario_types.specs.declared.parts.Network.TheVariants as Networks;
 ghost use Rattle.am_workers.specs.declared.workers.ThreadWorker.{ThreadWorker};
-ghost use Rattle.std.specs.Prelude.{◌≡◌, ◌<◌, Some, length, slice_get};
+ghost use Rattle.std.specs.Prelude.{◌≡◌, ◌<◌, ◌+◌, Some, length, slice_get};
 
-use crate::made::TurnsMade;
-use crate::order::{Order, Role, Worker};
+use crate::order::{Order, Role};
 use am_cluster_opening::NodeCrew;
 use am_places::Places;
 use am_scenario_types::Scenario;
@@ -34,138 +36,98 @@ fn thread_turn_at(
     turn_as_thread(worker, places, scenario, turn);
 }
 
-/// A turn of the thread at this place of the crew, if it has one left. Tells whether it has a further one.
-#[tactic(auto, using(crate::proofs::InTurn::crew_itself))]
-fn take_thread_turn(
-    scenario: &Scenario,
-    crew: &mut NodeCrew,
-    made: &mut TurnsMade,
-    at: usize,
-) -> bool
-    requires in_turn { IsInTurn scenario.now made.old crew.old }
-    ensures in_turn { IsInTurn scenario.now made.new crew.new }
+/// The crew's thread at this place makes the turn with this number.
+fn take_thread_turn(scenario: &Scenario, crew: &mut NodeCrew, at: usize, number: u32)
+    requires within { IsCrew scenario.now crew.old.node scenario.now.turns crew.old }
+    requires low { number < scenario.now.turns }
+    requires at_work { IsRoleAt scenario.now crew.old (Roles.Thread at) number }
+    ensures within { IsCrew scenario.now crew.old.node scenario.now.turns crew.new }
+    ensures at_work { IsRoleAt scenario.now crew.new (Roles.Thread at) (number + 1) }
+    ensures turns { TurnsInCrew (Roles.Thread at) crew.old crew.new }
     ensures same { SameCrew crew.old crew.new }
 {
-    let Some(turn) = made.of_thread(at) else {
-        return false;
-    };
-    if turn >= scenario.turns {
-        return false;
-    }
-    thread_turn_at(&mut crew.threads, at, &crew.places, scenario, turn);
-    made.set_thread(at, turn + 1);
-    turn + 1 < scenario.turns
+    thread_turn_at(&mut crew.threads, at, &crew.places, scenario, number);
 }
 
-/// A turn of the crew's interface, if it has one left. Tells whether it has a further one.
-#[tactic(auto, using(crate::proofs::InTurn::crew_itself))]
-fn take_interface_turn(scenario: &Scenario, crew: &mut NodeCrew, made: &mut TurnsMade) -> bool
+/// The crew's interface makes the turn with this number.
+fn take_interface_turn(scenario: &Scenario, crew: &mut NodeCrew, number: u32)
     requires lawful { IsLawful scenario.now }
-    requires in_turn { IsInTurn scenario.now made.old crew.old }
-    ensures in_turn { IsInTurn scenario.now made.new crew.new }
+    requires within { IsCrew scenario.now crew.old.node scenario.now.turns crew.old }
+    requires low { number < scenario.now.turns }
+    requires at_work { IsRoleAt scenario.now crew.old Roles.Interface number }
+    ensures within { IsCrew scenario.now crew.old.node scenario.now.turns crew.new }
+    ensures at_work { IsRoleAt scenario.now crew.new Roles.Interface (number + 1) }
+    ensures turns { TurnsInCrew Roles.Interface crew.old crew.new }
     ensures same { SameCrew crew.old crew.new }
 {
-    let turn = made.interface;
-    if turn >= scenario.turns {
-        return false;
-    }
-    turn_as_interface(&mut crew.interface, &crew.places, scenario, crew.node, turn);
-    made.interface = turn + 1;
-    turn + 1 < scenario.turns
+    turn_as_interface(
+        &mut crew.interface,
+        &crew.places,
+        scenario,
+        crew.node,
+        number,
+    );
 }
 
-/// A turn of the crew's driver, if it has one left. Tells whether it has a further one.
-#[tactic(auto, using(crate::proofs::InTurn::crew_itself))]
-fn take_driver_turn(
-    alloc: Global,
-    scenario: &Scenario,
-    crew: &mut NodeCrew,
-    made: &mut TurnsMade,
-) -> bool
+/// The crew's driver makes the turn with this number.
+fn take_driver_turn(alloc: Global, scenario: &Scenario, crew: &mut NodeCrew, number: u32)
     requires lawful { IsLawful scenario.now }
     requires packet { scenario.now.network ≡ Networks.Packet }
     requires declared { crew.old.node.0 < scenario.now.nodes }
-    requires in_turn { IsInTurn scenario.now made.old crew.old }
-    ensures in_turn { IsInTurn scenario.now made.new crew.new }
+    requires within { IsCrew scenario.now crew.old.node scenario.now.turns crew.old }
+    requires low { number < scenario.now.turns }
+    requires at_work { IsRoleAt scenario.now crew.old Roles.Driver number }
+    ensures within { IsCrew scenario.now crew.old.node scenario.now.turns crew.new }
+    ensures at_work { IsRoleAt scenario.now crew.new Roles.Driver (number + 1) }
+    ensures turns { TurnsInCrew Roles.Driver crew.old crew.new }
     ensures same { SameCrew crew.old crew.new }
 {
-    let turn = made.driver;
-    if turn >= scenario.turns {
-        return false;
-    }
-    turn_as_driver(alloc, &mut crew.driver, &crew.places, scenario, turn);
-    made.driver = turn + 1;
-    turn + 1 < scenario.turns
+    turn_as_driver(alloc, &mut crew.driver, &crew.places, scenario, number);
 }
 
-/// A turn of the crew's worker with this role, if it has one left. Tells whether it has a further one.
-fn take_turn(
-    alloc: Global,
-    scenario: &Scenario,
-    crew: &mut NodeCrew,
-    made: &mut TurnsMade,
-    role: Role,
-) -> bool
+/// The crew's worker with this role makes the turn with this number.
+fn take_turn(alloc: Global, scenario: &Scenario, crew: &mut NodeCrew, role: Role, number: u32)
     requires lawful { IsLawful scenario.now }
     requires packet { scenario.now.network ≡ Networks.Packet }
     requires declared { crew.old.node.0 < scenario.now.nodes }
-    requires in_turn { IsInTurn scenario.now made.old crew.old }
-    ensures in_turn { IsInTurn scenario.now made.new crew.new }
+    requires within { IsCrew scenario.now crew.old.node scenario.now.turns crew.old }
+    requires low { number < scenario.now.turns }
+    requires at_work { IsRoleAt scenario.now crew.old role number }
+    ensures within { IsCrew scenario.now crew.old.node scenario.now.turns crew.new }
+    ensures at_work { IsRoleAt scenario.now crew.new role (number + 1) }
+    ensures turns { TurnsInCrew role crew.old crew.new }
     ensures same { SameCrew crew.old crew.new }
 {
     match role {
-        Role::Thread(at) => take_thread_turn(scenario, crew, made, at),
-        Role::Interface => take_interface_turn(scenario, crew, made),
-        Role::Driver => take_driver_turn(alloc, scenario, crew, made),
+        Role::Thread(at) => take_thread_turn(scenario, crew, at, number),
+        Role::Interface => take_interface_turn(scenario, crew, number),
+        Role::Driver => take_driver_turn(alloc, scenario, crew, number),
     }
-}
-
-/// A turn of this worker, if it has one left. Tells whether it has a further one.
-fn take_turn_of(
-    alloc: Global,
-    scenario: &Scenario,
-    crews: &mut Vec<NodeCrew>,
-    made: &mut Vec<TurnsMade>,
-    worker: Worker,
-) -> bool
-    requires lawful { IsLawful scenario.now }
-    requires packet { scenario.now.network ≡ Networks.Packet }
-    requires in_turn { AreInTurn scenario.now made.old.items crews.old.items }
-    requires linked { AreLinked crews.old.items }
-    ensures in_turn { AreInTurn scenario.now made.new.items crews.new.items }
-    ensures linked { AreLinked crews.new.items }
-{
-    let at = worker.crew;
-    if at >= crews.len() {
-        return false;
-    }
-    let crew = &mut crews[at];
-    let turns = &mut made[at];
-    take_turn(alloc, scenario, crew, turns, worker.role)
 }
 
 /// All workers make their turns, each turn by itself, in this order.
 pub(crate) fn take_turns(
     alloc: Global,
     scenario: &Scenario,
+    seed: u64,
     order: &mut Order,
     crews: &mut Vec<NodeCrew>,
-    made: &mut Vec<TurnsMade>,
 )
     requires lawful { IsLawful scenario.now }
     requires packet { scenario.now.network ≡ Networks.Packet }
+    requires generator { order.old.generator ≡ seeded seed }
+    requires next { order.old.next.items ≡ first_turns scenario.now }
     requires crews { AreCrews scenario.now 0 crews.old.items }
-    requires counted { AreCounted made.old.items crews.old.items }
     requires linked { AreLinked crews.old.items }
     ensures crews { AreCrews scenario.now scenario.now.turns crews.new.items }
     ensures linked { AreLinked crews.new.items }
+    ensures turns { TakesTurns (order_of scenario.now seed) crews.old.items crews.new.items }
 {
     for _turn in 0..order.turns_left(scenario.turns) {
-        let Some((at, worker)) = order.draw() else {
+        let Some(turn) = order.draw(scenario.turns) else {
             return;
         };
-        if !take_turn_of(alloc, scenario, crews, made, worker) {
-            order.leave(at);
-        }
+        let crew = &mut crews[turn.worker.crew];
+        take_turn(alloc, scenario, crew, turn.worker.role, turn.number);
     }
 }

@@ -1,24 +1,47 @@
-use Rattle.std.proofs.Common.{rules, ◌<◌, ◌∙◌, refl, sym}
+use Rattle.std.proofs.Common.{◌≡◌, Some, List, refl, sym, subst, slice_get}
 use Rattle.std.proofs.lemmas.Option.{slice_get_within}
-use Rattle.am_cluster_schedule.proofs.InTurn.{crew_itself, thread_there, thread_turned}
+use Rattle.am_workers.specs.declared.workers.ThreadWorker.{ThreadWorker}
+use Rattle.am_cluster_crew.specs.Running.{IsThreadAt}
+use Rattle.am_cluster_schedule.proofs.InTurn.{crew_itself, thread_turned}
+use Rattle.am_cluster_schedule.proofs.Linked.{here_set, same_got}
 use Rattle.am_cluster_schedule.proofs.turns.take_thread_turn.Goals as goal
 
 pub thread_turn_at-requires-clause-at : goal.thread_turn_at-requires-clause-at
-thread_turn_at-requires-clause-at c =
-    thread_there c.args.scenario.now c.args.made.now c.args.crew.now c.requires.in_turn c.args.at c.in-Some.turn (sym c.of_thread.ensures ∙ c.in-Some.is)
+thread_turn_at-requires-clause-at c = let h = c.requires.at_work in slice_get_within c.args.crew.now.threads.items c.args.at h.0 h.1
 
 pub thread_turn_at-requires-clause-at_work : goal.thread_turn_at-requires-clause-at_work
-thread_turn_at-requires-clause-at_work c w at_w = c.requires.in_turn.threads c.args.at c.in-Some.turn w (sym c.of_thread.ensures ∙ c.in-Some.is) at_w
+thread_turn_at-requires-clause-at_work c w at_w =
+    let h = c.requires.at_work in
+    subst (λ (v : ThreadWorker). IsThreadAt c.args.scenario.now c.args.crew.now.places c.args.number v)
+    (same_got (slice_get c.args.crew.now.threads.items c.args.at) h.0 w h.1 at_w) h.2
 
-pub set_thread-requires : goal.set_thread-requires
-set_thread-requires c = record { at = slice_get_within c.args.made.now.threads.items c.args.at c.in-Some.turn (sym c.of_thread.ensures ∙ c.in-Some.is) }
+pub returns-clause-within : goal.returns-clause-within
+returns-clause-within c =
+    let t = c.thread_turn_at.ensures in
+    thread_turned c.args.scenario.now c.args.crew.now c.requires.within c.args.at c.args.number t.before t.after c.thread_turn_at.new.threads t.here
+    c.requires.low t.at_work t.same t.others
 
-pub returns-clause-in_turn : goal.returns-clause-in_turn
-returns-clause-in_turn c =
-    let low : c.in-Some.turn < c.args.scenario.now.turns = search rules in
-    thread_turned c.args.scenario.now c.args.made.now c.args.crew.now c.requires.in_turn c.args.at c.in-Some.turn c.thread_turn_at.new.threads
-    c.set_thread.new.self (sym c.of_thread.ensures ∙ c.in-Some.is) low
-    c.thread_turn_at.ensures c.set_thread.ensures.threads c.set_thread.ensures.interface c.set_thread.ensures.driver
+pub returns-clause-at_work : goal.returns-clause-at_work
+returns-clause-at_work c =
+    let t = c.thread_turn_at.ensures in (
+      t.after,
+      subst (λ (ws : List ThreadWorker). slice_get ws c.args.at ≡ Some t.after) (sym t.others)
+          (here_set c.args.crew.now.threads.items c.args.at t.before t.after t.here),
+      t.at_work,
+    )
+
+pub returns-clause-turns : goal.returns-clause-turns
+returns-clause-turns c =
+    let t = c.thread_turn_at.ensures in
+    record {
+      before = t.before;
+      after = t.after;
+      threads = c.thread_turn_at.new.threads;
+      here = t.here;
+      turned = t.turned;
+      others = t.others;
+      crew = refl;
+    }
 
 pub returns-clause-same : goal.returns-clause-same
 returns-clause-same c = let same = crew_itself c.args.crew.now in record { node = refl; outs = same.outs; ins = same.ins }
