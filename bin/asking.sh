@@ -370,6 +370,28 @@ tell_status() {
     say "$(beside am2_lab) explain $form ${files[*]:-< FILE} tells more"
 }
 
+# Looks for a seed by parts of the range, and tells behind each how far it is, where standard error is a terminal. What is printed and the status are those of the program for the
+# whole range, since it looks from the least seed on. Where one part has them all, or the shell can't count so far, nothing is done, and the answer is 1.
+seeds_a_part=2000
+find_by_parts() {
+    local place=1 range from to at next given told
+    [ "${asked[1]}" != --not ] || place=2
+    range=${asked[place]} from=${range%%..*} to=${range#*..}
+    [ ${#to} -le 18 ] && [ $((to - from)) -gt $seeds_a_part ] && given=$(mktemp) && told=$(mktemp) || return 1
+    # shellcheck disable=SC2064
+    trap "rm -f '$given' '$told'" EXIT
+    cat >"$given" || exit 4
+    for ((at = from; at < to; at = next)); do
+        next=$((at + seeds_a_part < to ? at + seeds_a_part : to))
+        "$program" "${asked[@]:0:place}" "$at..$next" "${asked[@]:place + 1}" <"$given" >"$told"
+        status=$?
+        [ $status -eq 12 ] || break
+        [ "$next" -eq "$to" ] || say "$called: no such seed in $from..$next"
+    done
+    [ $status -ne 12 ] || printf 'no such seed in %s\n' "$range" >"$told"
+    cat -- "$told" || status=5
+}
+
 # Runs the program on the files. Only where something is to be said behind it does this script stay.
 run_program() {
     local wait_for=$kind behind= file=FILE
@@ -386,8 +408,11 @@ run_program() {
     fi
     [ -z "$out" ] || exec >"$out" || exit 5
     [ -t 2 ] || exec "$program" "${asked[@]}"
-    "$program" "${asked[@]}"
-    local status=$?
+    local status=0
+    if [ "${words[0]}" != find ] || ! find_by_parts; then
+        "$program" "${asked[@]}"
+        status=$?
+    fi
     tell_status $status
     exit $status
 }
