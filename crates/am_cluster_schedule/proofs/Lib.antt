@@ -1,3 +1,4 @@
+mod Fair
 mod Linked
 mod InTurn
 mod Orders

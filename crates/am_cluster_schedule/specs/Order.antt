@@ -1,5 +1,5 @@
 -- The order in which the workers of a scenario take their turns by a seed.
-use Rattle.std.specs.Prelude.{ℕ, zero, suc, ◌+◌, ◌*◌, ◌%◌, nat_lt, List, [], ◌∷◌, ◌++◌, length, slice_get, slice_set, Option, Some, None, if◌then◌else◌}
+use Rattle.std.specs.Prelude.{◌≡◌, ℕ, zero, suc, ◌+◌, ◌*◌, ◌%◌, Bool, nat_lt, count_by, List, [], ◌∷◌, ◌++◌, length, slice_get, slice_set, Option, Some, None, if◌then◌else◌}
 use Rattle.std.specs.List.{remove}
 use Rattle.rand_pcg.specs.Lcg.{Lcg}
 use Rattle.rand_pcg.specs.Pcg.{pcg32}
@@ -74,3 +74,10 @@ scheduled s seed (suc n) = one_more s.turns (scheduled s seed n)
 -- THE ORDER by a seed: whose turns are taken, one after the other, until each worker has made as many as the scenario gives
 abbrev pub order_of : ScenarioLists → (seed : ℕ) → List Worker
 order_of s seed = (scheduled s seed (length (first_turns s) * s.turns)).taken
+
+-- ---- what the order says
+
+-- Whatever the seed, each worker takes as many turns as the scenario gives: of the workers that pass a test, whichever, so many stand in the order.
+abbrev pub EachTakesItsTurns : Type 0
+EachTakesItsTurns =
+    (s : ScenarioLists) (seed : ℕ) (p : Worker → Bool) → count_by p (order_of s seed) ≡ count_by (λ (turn : Turn). p turn.worker) (first_turns s) * s.turns

@@ -11,10 +11,12 @@ ghost use Rattle.am_scenario_types.specs.declared.parts.Network.TheVariants as N
 ghost use Rattle.am_model_scripts.specs.Layout.{layout_of};
 ghost use Rattle.std.specs.Prelude.{◌≡◌, [], IfErr, IfOk};
 
+mod laws;
 mod lone;
 mod order;
 mod turns;
 
+pub use crate::laws::each_worker_takes_its_turns;
 pub use crate::lone::a_lone_worker_makes_its_work;
 use crate::order::Order;
 pub use crate::order::{Role, Turn, Worker};
