@@ -2,7 +2,7 @@
 """schedules.py LAB [FIRST] [COUNT]: what `am2_lab schedule SEED..SEED2` tells, made again from the reports that `am2_lab schedule SEED` prints of each seed alone.
 
 The scenarios are the examples with turns, one without, and COUNT random ones with turns from FIRST on (20 from 1), each with a range of seeds of its own. A range that is
-empty, too long or no range is refused.
+empty, too long or no range is refused. Of two threads that send each other requests forty seeds make at least thirty distinct journals.
 """
 import pathlib
 import random
@@ -13,6 +13,13 @@ from randoms import threaded_script
 
 TOP = pathlib.Path(__file__).resolve().parent.parent
 REFUSED = ["5..5", "6..5", "0..100001", "..5", "5..", "5...7", "5..=7", "a..b", "0..18446744073709551616", "-1..3"]
+
+# Two threads on two nodes send each other requests, and each hears its answers.
+PAIR = "am2 1\nnetwork packet\nnodes 2\nturns 400\nendpoint 0 0 10\nendpoint 1 1 11\nthread 0 0\nthread 1 1\n" + "".join(
+    f"t{e} handler {e} 3 echo 4\nt{e} handler {e} 4 note\nt{e} map {e} 0 {1 - e} {11 - e} 4\n"
+    + "".join(f"t{e} request {e} 0 3 {word} 0 0 0\n" + f"t{e} poll {e}\n" * polls for word, polls in ((1, 0), (2, 1), (3, 1), (4, 3)))
+    for e in (0, 1)
+)
 
 
 def told(lab, seeds, text):
@@ -66,6 +73,10 @@ def main(lab, first=1, count=20):
         asked += 1
         if told(lab, word, examples[0][1]) != (2, ""):
             wrong.append(f"{word} was taken")
+    status, printed = told(lab, "0..40", PAIR)
+    asked, lines = asked + 1, lines + 40
+    if status != 0 or int(printed.split()[-1]) < 30:
+        wrong.append("two threads, forty seeds: fewer than thirty journals")
     print(f"{asked} ranges of seeds asked for, {lines} runs told; {len(wrong)} wrong")
     for it in wrong:
         print(it)

@@ -113,13 +113,6 @@ impl TracedJournal {
         &self.journal.entries
     }
 
-    /// The journal, without where its packets are received.
-    pub fn into_journal(self) -> Journal
-        ensures { result ≡ self }
-    {
-        self.journal
-    }
-
     /// The place of the first entry that receives a packet (`first_receipt` of specs/Receipts). None where no entry does.
     pub(crate) fn first_receipt(&self, way: Way) -> Option<usize>
         ensures { result ≡ receipts.first_receipt self.now way }
