@@ -235,7 +235,7 @@ still_set false o p keeps is = refl
 stays_set : (kinds : List (Option HandlerKind)) (at : ℕ) (kind : HandlerKind) (m : Message) → HasHandler kinds m → HasHandler (slice_set kinds at (Some kind)) m
 stays_set kinds at kind m is =
     still_set (is_request m) (entry_at kinds m.handler) (entry_at (slice_set kinds at (Some kind)) m.handler) (λ (old : is_none
-        (entry_at kinds m.handler) ≡ false).
+    (entry_at kinds m.handler) ≡ false).
     set_at kinds at (Some kind) (λ (o : Option HandlerKind). is_none o ≡ false) m.handler old refl) is
 
 -- a call leaves the handlers, or sets one
@@ -315,7 +315,7 @@ called_sum : (s : ScenarioLists) (e : EndpointId) (past : List Entry) (t : State
 called_sum s e past t actor end Calls.Poll (Out.Ran m handler (Some reply)) at adds set sends fits runs =
     let here = runs m refl in
     let held = polled_run (HasHandler t.body.handlers) end t m set t.body.notices (ap (λ (w : Outcome). run_in (Events.Call actor end Calls.Poll) w)
-        (sym fits)) in
+    (sym fits)) in
     let some : is_none (entry_at t.body.handlers m.handler) ≡ false =
     request_set (is_request m) (entry_at t.body.handlers m.handler) sends.0 held.held in
     let weight : adds_word e m ≡ m.words.a =
@@ -422,11 +422,11 @@ sums_step s e past x so_far goes = record {
     set' true at =
         subst (λ (w : State). ReceivedAre (HasHandler w.body.handlers) w) (sym (state_of_push (layout_of s) past x e true at))
         (held_kept (HasHandler (changed e (state_of (layout_of s) past e) x.event x.outcome).body.handlers) e (state_of
-            (layout_of s) past e) x.event x.outcome at
+        (layout_of s) past e) x.event x.outcome at
         (all_map (HasHandler (state_of (layout_of s) past e).body.handlers)
         (HasHandler (changed e (state_of (layout_of s) past e) x.event x.outcome).body.handlers) (state_of (layout_of s) past e).body.received
         (λ (m : Message) (is : HasHandler (state_of (layout_of s) past e).body.handlers m). changed_set e (state_of
-            (layout_of s) past e) x.event x.outcome m is)
+        (layout_of s) past e) x.event x.outcome m is)
         so_far.set)
         (λ (m : Message) (is : put_in x.event x.outcome ≡ Some m) (to : same_end e m.dest ≡ true).
         changed_set e (state_of (layout_of s) past e) x.event x.outcome m (welcome m is to)))

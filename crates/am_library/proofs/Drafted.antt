@@ -498,26 +498,89 @@ plan_kept s line d none =
 -- ---- a setting
 
 settings_kept : (s : ScenarioLists) (setting : Setting) → HasLawfulSettings s → is_good_setting setting ≡ true → HasLawfulSettings (with_setting s setting)
-settings_kept s (Set.Frames n) h good = record { nodes = h.nodes; frames = within 2 16 n good; channels = h.channels; tries = h.tries; bounces = h.bounces;
-    pool = h.pool; keep = h.keep; log = h.log; turns = h.turns }
-settings_kept s (Set.Channels n) h good = record { nodes = h.nodes; frames = h.frames; channels = within 1 4 n good; tries = h.tries; bounces = h.bounces;
-    pool = h.pool; keep = h.keep; log = h.log; turns = h.turns }
-settings_kept s (Set.Tries n) h good = record { nodes = h.nodes; frames = h.frames; channels = h.channels; tries = within 2 16 n good; bounces = h.bounces;
-    pool = h.pool; keep = h.keep; log = h.log; turns = h.turns }
-settings_kept s (Set.Bounces n) h good = record { nodes = h.nodes; frames = h.frames; channels = h.channels; tries = h.tries; bounces = leb-true n 16 good;
-    pool = h.pool; keep = h.keep; log = h.log; turns = h.turns }
-settings_kept s (Set.Keep n) h good = record { nodes = h.nodes; frames = h.frames; channels = h.channels; tries = h.tries; bounces = h.bounces;
-    pool = h.pool; keep = leb-true n 64 good; log = h.log; turns = h.turns }
-settings_kept s (Set.Log n) h good = record { nodes = h.nodes; frames = h.frames; channels = h.channels; tries = h.tries; bounces = h.bounces;
-    pool = h.pool; keep = h.keep; log = within 1 65_536 n good; turns = h.turns }
-settings_kept s (Set.Turns n) h good = record { nodes = h.nodes; frames = h.frames; channels = h.channels; tries = h.tries; bounces = h.bounces;
-    pool = h.pool; keep = h.keep; log = h.log; turns = leb-true n 10_000 good }
+settings_kept s (Set.Frames n) h good = record {
+  nodes = h.nodes;
+  frames = within 2 16 n good;
+  channels = h.channels;
+  tries = h.tries;
+  bounces = h.bounces;
+  pool = h.pool;
+  keep = h.keep;
+  log = h.log;
+  turns = h.turns;
+}
+settings_kept s (Set.Channels n) h good = record {
+  nodes = h.nodes;
+  frames = h.frames;
+  channels = within 1 4 n good;
+  tries = h.tries;
+  bounces = h.bounces;
+  pool = h.pool;
+  keep = h.keep;
+  log = h.log;
+  turns = h.turns;
+}
+settings_kept s (Set.Tries n) h good = record {
+  nodes = h.nodes;
+  frames = h.frames;
+  channels = h.channels;
+  tries = within 2 16 n good;
+  bounces = h.bounces;
+  pool = h.pool;
+  keep = h.keep;
+  log = h.log;
+  turns = h.turns;
+}
+settings_kept s (Set.Bounces n) h good = record {
+  nodes = h.nodes;
+  frames = h.frames;
+  channels = h.channels;
+  tries = h.tries;
+  bounces = leb-true n 16 good;
+  pool = h.pool;
+  keep = h.keep;
+  log = h.log;
+  turns = h.turns;
+}
+settings_kept s (Set.Keep n) h good = record {
+  nodes = h.nodes;
+  frames = h.frames;
+  channels = h.channels;
+  tries = h.tries;
+  bounces = h.bounces;
+  pool = h.pool;
+  keep = leb-true n 64 good;
+  log = h.log;
+  turns = h.turns;
+}
+settings_kept s (Set.Log n) h good = record {
+  nodes = h.nodes;
+  frames = h.frames;
+  channels = h.channels;
+  tries = h.tries;
+  bounces = h.bounces;
+  pool = h.pool;
+  keep = h.keep;
+  log = within 1 65_536 n good;
+  turns = h.turns;
+}
+settings_kept s (Set.Turns n) h good = record {
+  nodes = h.nodes;
+  frames = h.frames;
+  channels = h.channels;
+  tries = h.tries;
+  bounces = h.bounces;
+  pool = h.pool;
+  keep = h.keep;
+  log = h.log;
+  turns = leb-true n 10_000 good;
+}
 
 -- what a draft has but for its settings
 draft_with : (s t : ScenarioLists) →
     t ≡ record s { frames = t.frames; channels = t.channels; tries = t.tries; bounces = t.bounces; keep = t.keep; log = t.log; turns = t.turns } →
     IsDraft s → HasLawfulSettings t →
-        IsDraft (record s { frames = t.frames; channels = t.channels; tries = t.tries; bounces = t.bounces; keep = t.keep; log = t.log; turns = t.turns })
+    IsDraft (record s { frames = t.frames; channels = t.channels; tries = t.tries; bounces = t.bounces; keep = t.keep; log = t.log; turns = t.turns })
 draft_with s t is d settings =
     let l = d.lawful in
     record {

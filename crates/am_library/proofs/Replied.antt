@@ -168,7 +168,7 @@ answers_more layout past x so_far a = λ (r : Message) (s : Serial) (has : Conta
 all_answer : (layout : Layout) (journal : List Entry) → PostOffice layout journal → AllAnswer journal
 all_answer layout journal laws =
     over_each (Answering layout) AllAnswer (λ (past : List Entry) (x : Entry) (so_far : AllAnswer past)
-        (a : Answering layout past x). answers_more layout past x
+    (a : Answering layout past x). answers_more layout past x
     so_far a) [] journal (λ (r : Message) (s : Serial) (has : Contains [] r) (about : r.about ≡ Some s). absurd (nothing r has))
     (answering layout [] journal laws.acceptance.as_asked laws.replies.sends)
 

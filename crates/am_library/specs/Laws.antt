@@ -71,13 +71,13 @@ NothingIsLost = (s : ScenarioLists) (journal : List Entry) → IsRun s journal �
 abbrev pub WhatCameBackNeverRan : Type 0
 WhatCameBackNeverRan =
     (s : ScenarioLists) (journal : List Entry) (serial : Serial) (cause : Cause) → IsRun s journal → fate journal serial ≡ Some (Fates.Returned cause) →
-        count_by (has_serial serial) (requests_run journal) ≡ 0
+    count_by (has_serial serial) (requests_run journal) ≡ 0
 
 -- an unknown message didn't run, and one that is unknown but ran is told apart from it
 abbrev pub TheUnknownDidNotRun : Type 0
 TheUnknownDidNotRun =
     (s : ScenarioLists) (journal : List Entry) (serial : Serial) → IsRun s journal → fate journal serial ≡ Some Fates.Unknown →
-        count_by (has_serial serial) (requests_run journal) ≡ 0
+    count_by (has_serial serial) (requests_run journal) ≡ 0
 
 -- a request that ran has one reply, under its tag
 abbrev pub EachRunHasOneReply : Type 0
@@ -94,7 +94,7 @@ first_of words = words.a
 abbrev pub WholeSums : Type 0
 WholeSums =
     (s : ScenarioLists) (journal : List Entry) (e : EndpointId) → IsRun s journal → Adds s e → length (runs_at journal e) ≡ length (words_asked s.script) →
-        sum_at journal e ≡ sum_by first_of (words_asked s.script) % 2 ^ 64
+    sum_at journal e ≡ sum_by first_of (words_asked s.script) % 2 ^ 64
 
 -- every request that the script asks for has its end
 abbrev pub EachRequestHasItsEnd : Type 0

@@ -43,10 +43,14 @@ unsummed = record { kinds = replicate 16 None; sum = 0 }
 
 -- after an entry
 abbrev pub summed_by : EndpointId → Summing → Event → Outcome → Summing
-summed_by e t (Events.Call actor end (Calls.SetHandler index kind)) Out.Done = record t { kinds =
-    if same_end e end then slice_set t.kinds index (Some kind) else t.kinds }
-summed_by e t (Events.Call actor end Calls.Poll) (Out.Ran m handler sends) = record t { sum =
-    if same_end e end then sum_after (kind_run t.kinds handler) m.words t.sum else t.sum }
+summed_by e t (Events.Call actor end (Calls.SetHandler index kind)) Out.Done = record t {
+  kinds =
+      if same_end e end then slice_set t.kinds index (Some kind) else t.kinds;
+}
+summed_by e t (Events.Call actor end Calls.Poll) (Out.Ran m handler sends) = record t {
+  sum =
+      if same_end e end then sum_after (kind_run t.kinds handler) m.words t.sum else t.sum;
+}
 summed_by e t event outcome = t
 
 abbrev pub summed : EndpointId → Summing → Entry → Summing

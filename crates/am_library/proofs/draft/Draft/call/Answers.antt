@@ -7,5 +7,5 @@ pub invariant_of-self : goal.invariant_of-self
 invariant_of-self c =
     let s = c.self.inside.scenario in
     put_kept c.put_call.result s c.put_call.new.scenario (with_call s c.args.made) c.self.invariant (call_kept s c.args.made c.self.invariant
-        (sym c.in-None.ensures) c.call_is_typed.ensures) c.put_call.ensures.ok
+    (sym c.in-None.ensures) c.call_is_typed.ensures) c.put_call.ensures.ok
     c.put_call.ensures.err
