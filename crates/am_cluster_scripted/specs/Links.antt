@@ -8,7 +8,7 @@ use Rattle.am_model.specs.Layout.{node_at}
 use Rattle.am_scenario_plan.specs.declared.plan.LinkFault.{LinkFault}
 use Rattle.am_scenario_plan.specs.declared.plan.PlanLine.{PlanLine}
 use Rattle.am_scenario_plan.specs.Shape.{fault_at, number_of, shape}
-use Rattle.am_wire_release.specs.declared.stage.Held.{Held}
+use Rattle.am_wire_release.specs.declared.stage.LateItem.{LateItem}
 use Rattle.am_wire_release.specs.Staged.{Staged}
 use Rattle.am_wire_release.specs.Stages.{freed, held_after, held_then}
 use Rattle.am_cluster_scripted.specs.declared.links.LinkTable.{LinkTable}
@@ -16,7 +16,7 @@ use Rattle.am_cluster_scripted.specs.declared.links.LinkTable.{LinkTable}
 -- the numbers that a link released, and those that it will release later
 pub record Released : Type 0 where
   pub numbers : List ℕ
-  pub held : List (Held ℕ)
+  pub held : List (LateItem ℕ)
 
 abbrev pub released_in : Staged ℕ → Released
 released_in l = record { numbers = l.released; held = l.held }

@@ -23,15 +23,15 @@ use Rattle.am_model.proofs.Unchanged.{called_place, carried_place, received_plac
 use Rattle.am_endpoint.specs.Events.{is_kept_out, keeps_in_memory}
 use Rattle.am_endpoint.specs.Held.{IsHeldOf, IsHere, held_wanted, with_wanted}
 use Rattle.am_endpoint.specs.declared.fields.Fields.{Fields}
-use Rattle.am_endpoint.specs.declared.held.Held.{Held}
-use Rattle.am_endpoint.specs.declared.held.Held.TheVariants.{Here, OnDisk}
+use Rattle.am_endpoint.specs.declared.held.HeldEndpoint.{HeldEndpoint}
+use Rattle.am_endpoint.specs.declared.held.HeldEndpoint.TheVariants.{Here, OnDisk}
 
 -- what is held, where it is known whether there is a body
 
-pub here_of : (pool : Option ℕ) (s : State) (held : Held) (f : Fields) → IsHeldOf pool s held → held ≡ Here f → IsHere pool s f
-here_of pool s held f holds is = subst (λ (h : Held). IsHeldOf pool s h) is holds
+pub here_of : (pool : Option ℕ) (s : State) (held : HeldEndpoint) (f : Fields) → IsHeldOf pool s held → held ≡ Here f → IsHere pool s f
+here_of pool s held f holds is = subst (λ (h : HeldEndpoint). IsHeldOf pool s h) is holds
 
-pub wanted_held : (pool : Option ℕ) (s : State) (held : Held) (wanted : Bool) → IsHeldOf pool s held →
+pub wanted_held : (pool : Option ℕ) (s : State) (held : HeldEndpoint) (wanted : Bool) → IsHeldOf pool s held →
     IsHeldOf pool (with_wanted s wanted) (held_wanted held wanted)
 wanted_held pool s (Here f) wanted holds =
     record { in_memory = holds.in_memory; state = ap (λ (t : State). with_wanted t wanted) holds.state; pooled = holds.pooled }

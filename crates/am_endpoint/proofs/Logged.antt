@@ -33,8 +33,8 @@ use Rattle.am_endpoint.specs.Kept.{IsReplay, replayed, view_of}
 use Rattle.am_endpoint.specs.Seen.{state_in}
 use Rattle.am_endpoint.specs.View.{EndpointView, state_after, state_by}
 use Rattle.am_endpoint.specs.declared.fields.Fields.{Fields}
-use Rattle.am_endpoint.specs.declared.held.Held.{Held}
-use Rattle.am_endpoint.specs.declared.held.Held.TheVariants.{Here, OnDisk}
+use Rattle.am_endpoint.specs.declared.held.HeldEndpoint.{HeldEndpoint}
+use Rattle.am_endpoint.specs.declared.held.HeldEndpoint.TheVariants.{Here, OnDisk}
 use Rattle.am_endpoint.specs.declared.Endpoint.TheInside.{Inside}
 use Rattle.am_endpoint.proofs.Holding.{called_here, stays_here, wanted_held}
 
@@ -43,7 +43,7 @@ next : (i : Inside) (log : Vec Entry Global) (x : Entry) → log.items ≡ i.log
     state_by i.settings log.items ≡ after i.settings.id (replayed i) x
 next i log x items = ap (state_by i.settings) items ∙ replay_push i.settings.id (fresh i.settings.tag i.settings.place) i.log.items x
 
-pub entered : (i : Inside) (held : Held) (log : Vec Entry Global) (x : Entry) → IsReplay i → log.items ≡ i.log.items ++ x ∷ [] →
+pub entered : (i : Inside) (held : HeldEndpoint) (log : Vec Entry Global) (x : Entry) → IsReplay i → log.items ≡ i.log.items ++ x ∷ [] →
     length i.log.items < i.settings.log → IsHeldOf i.settings.pool (after i.settings.id (replayed i) x) held →
     IsInOrder i.settings.pool i.settings.id (after i.settings.id (replayed i) x) → IsReplay (record i { held = held; log = log })
 entered i held log x kept items room holds order =
@@ -110,7 +110,7 @@ pub slot_held : (i : Inside) (v : EndpointView) (f : Fields) (serial : Option Se
     IsSlotOf serial f.body.body.in_flight f.body.flights slot
 slot_held i v f serial slot e is here at =
     subst (λ (s : State). IsSlotOf serial s.body.in_flight f.body.flights slot) (sym here.state)
-    (subst (λ (h : Held). IsSlotOf serial (replayed i).body.in_flight (flights_of h) slot) is
+    (subst (λ (h : HeldEndpoint). IsSlotOf serial (replayed i).body.in_flight (flights_of h) slot) is
     (subst (λ (w : EndpointView). IsSlotOf serial (state_after w).body.in_flight w.flights slot) (sym e) at))
 
 -- and after a call
@@ -170,22 +170,22 @@ same_log i log items kept =
     }
 
 -- what is held after an entry that changes at most whether it is wanted
-pub noted : (i : Inside) (v : EndpointView) (x : Entry) (held : Held) (wanted : Bool) → view_of i ≡ v → IsReplay i → held ≡ held_wanted i.held wanted →
+pub noted : (i : Inside) (v : EndpointView) (x : Entry) (held : HeldEndpoint) (wanted : Bool) → view_of i ≡ v → IsReplay i → held ≡ held_wanted i.held wanted →
     after v.settings.id (state_after v) x ≡ with_wanted (state_after v) wanted → IsHeldOf i.settings.pool (after i.settings.id (replayed i) x) held
 noted i v x held wanted e kept is change =
     let here : after i.settings.id (replayed i) x ≡ with_wanted (replayed i) wanted =
     subst (λ (w : EndpointView). after w.settings.id (state_after w) x ≡ with_wanted (state_after w) wanted) (sym e) change in
-    subst (λ (h : Held). IsHeldOf i.settings.pool (after i.settings.id (replayed i) x) h) (sym is)
+    subst (λ (h : HeldEndpoint). IsHeldOf i.settings.pool (after i.settings.id (replayed i) x) h) (sym is)
     (subst (λ (s : State). IsHeldOf i.settings.pool s (held_wanted i.held wanted)) (sym here)
     (wanted_held i.settings.pool (replayed i) i.held wanted kept.held))
 
 -- what is held after it went to disk
-pub gave : (i : Inside) (v : EndpointView) (x : Entry) (node : NodeId) (end : EndpointId) (f : Fields) (h : Head) (held : Held) → view_of i ≡ v →
+pub gave : (i : Inside) (v : EndpointView) (x : Entry) (node : NodeId) (end : EndpointId) (f : Fields) (h : Head) (held : HeldEndpoint) → view_of i ≡ v →
     x.event ≡ Events.PageOut node end → x.outcome ≡ Out.Done → state_in f ≡ state_after v → h ≡ (paged_out (state_in f) Out.Done).head → held ≡ OnDisk h →
     IsHeldOf i.settings.pool (after i.settings.id (replayed i) x) held
 gave i v x node end f h held e event outcome state head is =
     let out : after i.settings.id (replayed i) x ≡ paged_out (replayed i) Out.Done = λ k. changed i.settings.id (replayed i) (event k) (outcome k) in
-    subst (λ (w : Held). IsHeldOf i.settings.pool (after i.settings.id (replayed i) x) w) (sym is)
+    subst (λ (w : HeldEndpoint). IsHeldOf i.settings.pool (after i.settings.id (replayed i) x) w) (sym is)
     (record {
       on_disk = ap (λ (s : State). is_on_disk s.head.place) out;
       head = head ∙ ap (λ (s : State). (paged_out s Out.Done).head) (state ∙ sym (ap state_after e)) ∙ sym (ap (λ (s : State). s.head) out);

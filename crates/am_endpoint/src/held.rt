@@ -11,14 +11,14 @@ use std::alloc::Global;
 
 /// What is kept of a state: all of it in memory, and on disk its head alone.
 #[derive(Drop)]
-pub enum Held {
+pub enum HeldEndpoint {
     Here(Fields),
     OnDisk(Head),
 }
 
-impl Held {
+impl HeldEndpoint {
     /// What is kept of a fresh endpoint. On disk nothing takes memory.
-    pub fn opening(alloc: Global, set: &EndSettings) -> Result<Held, NoMemory>
+    pub fn opening(alloc: Global, set: &EndSettings) -> Result<HeldEndpoint, NoMemory>
         ensures { IfOk result (λ held. IsHeldOf set.now.pool (fresh set.now.tag set.now.place) held) }
     {
         let head = Head {
@@ -28,10 +28,10 @@ impl Held {
             closed: false,
         };
         if is_on_disk(set.place) {
-            return Ok(Held::OnDisk(head));
+            return Ok(HeldEndpoint::OnDisk(head));
         }
         match Body::opening(alloc, set) {
-            Ok(body) => Ok(Held::Here(Fields { head, body })),
+            Ok(body) => Ok(HeldEndpoint::Here(Fields { head, body })),
             Err(fault) => Err(fault),
         }
     }
@@ -41,8 +41,8 @@ impl Held {
         ensures { result ≡ head_of self.now }
     {
         match self {
-            Held::Here(fields) => fields.head,
-            Held::OnDisk(head) => *head,
+            HeldEndpoint::Here(fields) => fields.head,
+            HeldEndpoint::OnDisk(head) => *head,
         }
     }
 
@@ -51,8 +51,8 @@ impl Held {
         ensures { self.new ≡ held_wanted self.old wanted }
     {
         match self {
-            Held::Here(fields) => fields.head.wanted = wanted,
-            Held::OnDisk(head) => head.wanted = wanted,
+            HeldEndpoint::Here(fields) => fields.head.wanted = wanted,
+            HeldEndpoint::OnDisk(head) => head.wanted = wanted,
         }
     }
 }

@@ -32,7 +32,7 @@ mod settings;
 
 use crate::arrivals::verdict_on_disk;
 use crate::fields::Fields;
-use crate::held::Held;
+use crate::held::HeldEndpoint;
 pub use crate::settings::EndFault;
 use am_block::Slot;
 pub use am_endpoint_body::{Body, EndSettings};
@@ -51,7 +51,7 @@ use std::mem::replace;
 #[derive(Drop)]
 pub struct Endpoint {
     settings: EndSettings,
-    held: Held,
+    held: HeldEndpoint,
     log: Vec<Entry>,
 }
 
@@ -75,7 +75,7 @@ impl Endpoint {
         ensures log { IfOk result (λ end. end.log ≡ []) }
         ensures flights { IfOk result (λ end. end.flights ≡ []) }
     {
-        match Held::opening(alloc, &set) {
+        match HeldEndpoint::opening(alloc, &set) {
             Ok(held) => Ok(Endpoint {
                 settings: set,
                 held,
@@ -187,8 +187,8 @@ impl Endpoint {
         ensures order { IsInOrder self.now.settings.pool self.now.settings.id (state_after self.now) }
     {
         match &self.held {
-            Held::Here(fields) => fields,
-            Held::OnDisk(_) => unreachable!(),
+            HeldEndpoint::Here(fields) => fields,
+            HeldEndpoint::OnDisk(_) => unreachable!(),
         }
     }
 }
@@ -242,8 +242,8 @@ impl Endpoint {
         ensures { result ≡ verdict (state_after self.now) message.now }
     {
         match &self.held {
-            Held::Here(fields) => fields.verdict(message),
-            Held::OnDisk(head) => verdict_on_disk(*head),
+            HeldEndpoint::Here(fields) => fields.verdict(message),
+            HeldEndpoint::OnDisk(head) => verdict_on_disk(*head),
         }
     }
 
@@ -285,8 +285,8 @@ impl Endpoint {
         ensures { result ≡ flying_of serial (state_after self.now).body.in_flight }
     {
         match &self.held {
-            Held::Here(fields) => fields.body.flight(serial),
-            Held::OnDisk(_) => None,
+            HeldEndpoint::Here(fields) => fields.body.flight(serial),
+            HeldEndpoint::OnDisk(_) => None,
         }
     }
 
@@ -296,8 +296,8 @@ impl Endpoint {
         ensures none { (result ≡ None) ↔ (flying_of serial (state_after self.now).body.in_flight ≡ None) }
     {
         match &self.held {
-            Held::Here(fields) => fields.body.flight_slot(serial),
-            Held::OnDisk(_) => None,
+            HeldEndpoint::Here(fields) => fields.body.flight_slot(serial),
+            HeldEndpoint::OnDisk(_) => None,
         }
     }
 
@@ -306,8 +306,8 @@ impl Endpoint {
         ensures { result ≡ length (state_after self.now).body.in_flight }
     {
         match &self.held {
-            Held::Here(fields) => fields.body.in_flight_len(),
-            Held::OnDisk(_) => 0,
+            HeldEndpoint::Here(fields) => fields.body.in_flight_len(),
+            HeldEndpoint::OnDisk(_) => 0,
         }
     }
 }
@@ -355,7 +355,7 @@ impl Endpoint {
         ensures flights { self.new.flights ≡ self.old.flights }
     {
         let end = self.settings.id;
-        let Held::Here(fields) = &mut self.held else {
+        let HeldEndpoint::Here(fields) = &mut self.held else {
             unreachable!()
         };
         fields.apply(end, entry);
@@ -402,7 +402,7 @@ impl Endpoint {
         ensures flights { self.new.flights ≡ self.old.flights }
     {
         let end = self.settings.id;
-        let Held::Here(fields) = &mut self.held else {
+        let HeldEndpoint::Here(fields) = &mut self.held else {
             unreachable!()
         };
         let outcome = fields.call(end, call);
@@ -528,7 +528,7 @@ impl Endpoint {
         ensures log { self.new.log ≡ self.old.log ++ entry ∷ [] }
         ensures flights { self.new.flights ≡ self.old.flights ++ result.0 ∷ [] }
     {
-        let Held::Here(fields) = &mut self.held else {
+        let HeldEndpoint::Here(fields) = &mut self.held else {
             unreachable!()
         };
         let slot = fields.fly_front();
@@ -548,7 +548,7 @@ impl Endpoint {
         ensures flights { self.new.flights ≡ without slot.0 self.old.flights }
     {
         let end = self.settings.id;
-        let Held::Here(fields) = &mut self.held else {
+        let HeldEndpoint::Here(fields) = &mut self.held else {
             unreachable!()
         };
         fields.settle(end, &entry, slot);
@@ -604,7 +604,7 @@ impl Endpoint {
         ensures same { (state_after self.new).body ≡ (state_after self.old).body }
     {
         let head = self.fields().head_away();
-        let Held::Here(fields) = replace(&mut self.held, Held::OnDisk(head)) else {
+        let HeldEndpoint::Here(fields) = replace(&mut self.held, HeldEndpoint::OnDisk(head)) else {
             unreachable!()
         };
         self.log.push_reserved(entry);
@@ -651,7 +651,7 @@ impl Endpoint {
             place: Place::Host,
             ..self.head()
         };
-        self.held = Held::Here(Fields { head, body });
+        self.held = HeldEndpoint::Here(Fields { head, body });
         self.log.push_reserved(entry);
     }
 

@@ -17,7 +17,7 @@ use Rattle.am_scenario_types.specs.declared.parts.Form.{Form}
 use Rattle.am_scenario_types.specs.declared.parts.Form.TheVariants as Forms
 use Rattle.am_segment.specs.Spelling.{segment_grammar}
 use Rattle.am_lab_drawings.specs.Charts.{ChartAnswers}
-use Rattle.am_lab_drawings.specs.declared.view.parts.Part.{Part}
+use Rattle.am_lab_drawings.specs.declared.view.parts.LineRange.{LineRange}
 use Rattle.am_lab_words.specs.declared.Lines.{Lines}
 use Rattle.am_lab_page.specs.Json.Answers.{JsonAnswers}
 use Rattle.am_lab_scenarios.specs.Derived.Answers.{ExpandedAnswers, FaultsAnswers, PrintsScenario, RoundAnswers}
@@ -67,7 +67,7 @@ pub record TellsWhy (form : Form) (bytes : List ℕ) (serial : Serial) (answer :
   pub more : ((checked.status ≢ 0) × (answer ≡ checked)) ⊎ (LacksEndpoint form bytes serial checked answer ⊎ TellsMessage form bytes serial checked answer)
 
 -- the part of a report that the words name
-abbrev pub part_of : Option Lines → Option Part
+abbrev pub part_of : Option Lines → Option LineRange
 part_of None = None
 part_of (Some lines) = Some (record { from = lines.from; to = lines.to })
 

@@ -16,7 +16,7 @@ use crate::cuts::{cut_report, full_line_of};
 use crate::explains::explained;
 use am_check::laws::yes_is_true;
 use am_lab_drawings::chart_output;
-use am_lab_drawings::view::Part;
+use am_lab_drawings::view::LineRange;
 use am_lab_page::json::json_output;
 use am_lab_reasons::{is_declared, why};
 use am_lab_scenarios::derived::{
@@ -128,11 +128,11 @@ fn scheduled(alloc: Global, bytes: &[u8], seed: u64) -> Result<Output, NoMemory>
 }
 
 // The part of a report that the words name.
-fn part_of(lines: Option<Lines>) -> Option<Part>
+fn part_of(lines: Option<Lines>) -> Option<LineRange>
     ensures { result ≡ answers.part_of lines }
 {
     match lines {
-        Some(lines) => Some(Part {
+        Some(lines) => Some(LineRange {
             from: lines.from,
             to: lines.to,
         }),

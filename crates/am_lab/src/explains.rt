@@ -20,7 +20,7 @@ use am_main_lines::{Output, condition_word, full_line, refused_line};
 use am_main_step::{StepFault, step_text};
 use am_names::NoMemory;
 use am_office_entries::{Condition, Part};
-use am_office_text::Piece::Text;
+use am_office_text::LinePiece::Text;
 use am_office_text::{count, put_line};
 use am_scenario::{Form, ReadFault, ScenarioFault, read};
 use std::alloc::{AllocError, Global};

@@ -9,10 +9,10 @@ ghost use Rattle.am_office_text.specs.Pieces.{word_of};
 
 use am_lab_xml::Attribute::{Number, Word};
 use am_lab_xml::{Attribute, put_close, put_empty, put_open, put_text};
-use am_office_text::{Piece, put_word};
+use am_office_text::{LinePiece, put_word};
 use std::alloc::{AllocError, Global};
 
-fn text_of(alloc: Global, piece: Piece) -> Result<Vec<u8>, AllocError>
+fn text_of(alloc: Global, piece: LinePiece) -> Result<Vec<u8>, AllocError>
     ensures { IfOk result (λ text. text.items ≡ word_of piece) }
 {
     let mut text = Vec::new(alloc);
@@ -21,7 +21,7 @@ fn text_of(alloc: Global, piece: Piece) -> Result<Vec<u8>, AllocError>
 }
 
 // Appends a word as text.
-fn put_piece(out: &mut Vec<u8>, alloc: Global, piece: Piece) -> Result<(), AllocError>
+fn put_piece(out: &mut Vec<u8>, alloc: Global, piece: LinePiece) -> Result<(), AllocError>
     ensures { OnOk result (out.new.items ≡ out.old.items ++ escaped (word_of piece)) }
 {
     let text = text_of(alloc, piece)?;
@@ -35,7 +35,7 @@ pub(crate) fn put_caption(
     alloc: Global,
     given: &[Attribute],
     lead: &str,
-    piece: Piece,
+    piece: LinePiece,
 ) -> Result<(), AllocError>
     ensures { OnOk result (out.new.items ≡ out.old.items ++ printed (caption (map attribute_of given.now) lead.now (word_of piece))) }
 {

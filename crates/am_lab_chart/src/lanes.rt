@@ -14,7 +14,7 @@ use am_lab_picture::{Lane, Picture};
 use am_lab_xml::Attribute::{Number, Word};
 use am_lab_xml::put_empty;
 use am_names::{NodeId, Tag};
-use am_office_text::{Piece, small};
+use am_office_text::{LinePiece, small};
 use std::alloc::{AllocError, Global};
 
 // Appends a text in the middle of a head.
@@ -25,7 +25,7 @@ fn put_head(
     y: u64,
     size: &'static str,
     lead: &str,
-    text: Piece,
+    text: LinePiece,
 ) -> Result<(), AllocError>
     ensures { OnOk result (out.new.items ≡ out.old.items ++ printed (lanes.head x y size.now lead.now (word_of text))) }
 {
@@ -64,7 +64,15 @@ fn put_end_head(
     let x = x_of_end(picture, left, lane.id);
     put_head(out, alloc, x, TOP - 20, "9", "endpoint ", small(lane.id.0))?;
     let size = tag_size(lane.tag);
-    put_head(out, alloc, x, TOP - 8, size, "tag ", Piece::Tag(lane.tag))
+    put_head(
+        out,
+        alloc,
+        x,
+        TOP - 8,
+        size,
+        "tag ",
+        LinePiece::Tag(lane.tag),
+    )
 }
 
 /// Appends the heads of endpoints.

@@ -7,7 +7,7 @@ ghost use Rattle.am_lab_xml.specs.Trees.{each, opening, printed};
 use crate::captions::put_caption;
 use am_lab_xml::Attribute::{Number, Word};
 use am_lab_xml::{put_close, put_empty, put_open, put_text};
-use am_office_text::Piece;
+use am_office_text::LinePiece;
 use std::alloc::{AllocError, Global};
 
 /// A sign's shape round its place: what is filled, and what is only stroked.
@@ -109,7 +109,7 @@ fn put_meaning(out: &mut Vec<u8>, alloc: Global, meaning: Meaning) -> Result<(),
         Number("y", y + 3),
         Word("class", "plain"),
     ];
-    put_caption(out, alloc, &given, "", Piece::Text(meaning.text))
+    put_caption(out, alloc, &given, "", LinePiece::Text(meaning.text))
 }
 
 /// Appends shapes, in this scale.

@@ -18,7 +18,7 @@ use am_lab_xml::{put_break, put_close, put_empty, put_open, put_text};
 use am_names::NoMemory;
 use am_office_entries::{Entry, Outcome};
 use am_office_text::entry_lines::entry_line;
-use am_office_text::{Piece, count};
+use am_office_text::{LinePiece, count};
 use std::alloc::{AllocError, Global};
 
 /// The line of an entry, without its newline.
@@ -203,7 +203,7 @@ fn put_inner_text(
     alloc: Global,
     x: u64,
     y: u64,
-    text: Piece,
+    text: LinePiece,
 ) -> Result<(), AllocError>
     requires { y ≤ 400000 }
     ensures { OnOk result (out.new.items ≡ out.old.items ++ printed (rows.inner_text x y (word_of text))) }
@@ -218,7 +218,7 @@ fn put_inner(
     picture: &Picture,
     x: u64,
     y: u64,
-    text: Option<Piece>,
+    text: Option<LinePiece>,
 ) -> Result<(), AllocError>
     requires { y ≤ 400000 }
     ensures { OnOk result (out.new.items ≡ out.old.items ++ printed (rows.inner picture.now x y (option_map word_of text))) }
@@ -266,7 +266,7 @@ fn put_label_at(
     y: u64,
     class: &'static str,
     anchor: &'static str,
-    text: Piece,
+    text: LinePiece,
 ) -> Result<(), AllocError>
     ensures { OnOk result (out.new.items ≡ out.old.items ++ printed (rows.label_at x y class.now anchor.now (word_of text))) }
 {
@@ -289,7 +289,7 @@ fn put_label_text(
     y: u64,
     about: Option<Named>,
     to: Option<Link>,
-    text: Piece,
+    text: LinePiece,
 ) -> Result<(), AllocError>
     requires drawable { IsDrawable picture.now }
     requires narrow { left ≤ 4000 }
@@ -317,7 +317,7 @@ fn put_label(
     y: u64,
     about: Option<Named>,
     to: Option<Link>,
-    text: Option<Piece>,
+    text: Option<LinePiece>,
 ) -> Result<(), AllocError>
     requires drawable { IsDrawable picture.now }
     requires narrow { left ≤ 4000 }

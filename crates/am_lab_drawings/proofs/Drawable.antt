@@ -17,7 +17,7 @@ use Rattle.am_lab_picture.specs.declared.data.Lines.{Lines}
 use Rattle.am_lab_reasons.proofs.Reported.{reported}
 use Rattle.am_lab_drawings.specs.View.Parts.{few, is_within, lines_of, part_lines}
 use Rattle.am_lab_drawings.specs.View.Pictures.{Shows, picture_by, picture_of}
-use Rattle.am_lab_drawings.specs.declared.view.parts.Part.{Part}
+use Rattle.am_lab_drawings.specs.declared.view.parts.LineRange.{LineRange}
 use Rattle.am_lab_drawings.specs.declared.view.parts.PictureFault.{PictureFault}
 use Rattle.am_lab_drawings.specs.declared.view.parts.PictureFault.TheVariants as Faults
 use Rattle.am_lab_drawings.specs.View.Standings.{lane}
@@ -56,7 +56,7 @@ pub record AreGood (count : ℕ) (lines : Lines) : Type 0 where
   pub few : lines.count ≤ 20_000
   pub within : lines.first + lines.count ≤ count + 3
 
-good_lines : (count : ℕ) (part : Option Part) (l : Lines) → lines_of count part ≡ Ok l → AreGood count l
+good_lines : (count : ℕ) (part : Option LineRange) (l : Lines) → lines_of count part ≡ Ok l → AreGood count l
 good_lines count None l e =
     let f = few_by (nat_le count 20_000) (record { first = 3; count = count }) l e in
     subst (AreGood count) f.1 (record { few = leb-true count 20_000 f.0; within = omega arith })
@@ -92,7 +92,7 @@ drawable_of s journal lines lawful short good =
       lanes = omega (arith, lanes, ends);
     }
 
-pub drawable : SpellsLawful → (form : Form) (text : List ℕ) (part : Option Part) (p : PictureLists) → length text < 2 ^ 31 → Shows form text part (Ok p) →
+pub drawable : SpellsLawful → (form : Form) (text : List ℕ) (part : Option LineRange) (p : PictureLists) → length text < 2 ^ 31 → Shows form text part (Ok p) →
     IsDrawable p
 drawable law form text part p few shows =
     let s = shows.scenario in

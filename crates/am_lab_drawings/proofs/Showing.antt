@@ -9,14 +9,14 @@ use Rattle.am_scenario_types.specs.Lists.{ScenarioLists}
 use Rattle.am_lab_picture.specs.Data.{PictureLists}
 use Rattle.am_lab_reasons.proofs.Reported.{same_scenario}
 use Rattle.am_lab_drawings.specs.View.Pictures.{Shows, ShowsOf}
-use Rattle.am_lab_drawings.specs.declared.view.parts.Part.{Part}
+use Rattle.am_lab_drawings.specs.declared.view.parts.LineRange.{LineRange}
 use Rattle.am_lab_drawings.specs.declared.view.parts.PictureFault.{PictureFault}
 use Rattle.am_lab_drawings.specs.declared.view.parts.PictureFault.TheVariants.{NoMemory}
 
 one_place : (a b : ℕ) (o : Option ℕ) → o ≡ Some a → o ≡ Some b → a ≡ b
 one_place a b o e f = cc
 
-pub shows_all : (form : Form) (text : List ℕ) (part : Option Part) → IsChecked form text →
+pub shows_all : (form : Form) (text : List ℕ) (part : Option LineRange) → IsChecked form text →
     (place : ℕ) (bytes : List ℕ) (s : ScenarioLists) (answer : Result PictureLists PictureFault) → place_of text ≡ Some place → bytes ≡ drop place text →
     grammar form (take place text) ≡ Ok s → ((f : Form) → IsReportOf f s bytes → (answer ≡ Err NoMemory) ⊎ ShowsOf f s bytes part answer) →
     (answer ≡ Err NoMemory) ⊎ Shows form text part answer

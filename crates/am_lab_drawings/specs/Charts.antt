@@ -8,7 +8,7 @@ use Rattle.am_lab_picture.specs.Data.{PictureLists}
 use Rattle.am_lab_drawings.specs.View.Pictures.{Shows}
 use Rattle.am_lexer.specs.Text.{lines_of}
 use Rattle.am_office_text.specs.Words.{line}
-use Rattle.am_lab_drawings.specs.declared.view.parts.Part.{Part}
+use Rattle.am_lab_drawings.specs.declared.view.parts.LineRange.{LineRange}
 use Rattle.am_lab_drawings.specs.declared.view.parts.PictureFault.{PictureFault}
 use Rattle.am_lab_drawings.specs.declared.view.parts.PictureFault.TheVariants as Faults
 use Rattle.am_main_check.specs.Checks.{CheckAnswers}
@@ -40,14 +40,14 @@ drawing_of bytes (Err Faults.TooManyRows) = too_many_rows
 drawing_of bytes (Err Faults.NoMemory) = record { status = 8; text = codes "no memory\n" }
 
 -- the report is right, and what is shown of its lines is drawn
-pub record DrawsReport (form : Form) (bytes : List ℕ) (part : Option Part) (checked answer : Answer) : Type 0 where
+pub record DrawsReport (form : Form) (bytes : List ℕ) (part : Option LineRange) (checked answer : Answer) : Type 0 where
   pub right : checked.status ≡ 0
   pub shown : Result PictureLists PictureFault
   pub shows : Shows form bytes part shown
   pub answer' : answer ≡ drawing_of bytes shown
 
 -- THE HEADLINE, for `chart`: the answer is that of `check`, but where that says that the report is right, its lines are drawn.
-pub record ChartAnswers (form : Form) (bytes : List ℕ) (part : Option Part) (answer : Answer) : Type 0 where
+pub record ChartAnswers (form : Form) (bytes : List ℕ) (part : Option LineRange) (answer : Answer) : Type 0 where
   pub checked : Answer
   pub checks : CheckAnswers form bytes checked
   pub more : ((checked.status ≢ 0) × (answer ≡ checked)) ⊎ DrawsReport form bytes part checked answer

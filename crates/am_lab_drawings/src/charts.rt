@@ -11,14 +11,14 @@ ghost use Rattle.am_lab_picture.specs.Data.{PictureLists};
 ghost use Rattle.am_lab_drawings.specs.declared.view.parts.PictureFault.{PictureFault as Fault};
 ghost use Rattle.am_lab_drawings.specs.declared.view.parts.PictureFault.TheVariants.{NoMemory as Starved};
 
-use crate::view::{Part, PictureFault, picture};
+use crate::view::{LineRange, PictureFault, picture};
 use am_check::laws::yes_is_true;
 use am_check::{place_of, split_head};
 use am_lab_chart::chart;
 use am_main_check::check_output;
 use am_main_lines::Output;
 use am_names::NoMemory;
-use am_office_text::Piece::Number;
+use am_office_text::LinePiece::Number;
 use am_office_text::put_line;
 use am_scenario::{Form, one_scenario_or_fault};
 use std::alloc::{AllocError, Global};
@@ -86,7 +86,12 @@ fn refused(alloc: Global, bytes: &[u8], fault: PictureFault) -> Result<Output, N
 }
 
 // The drawing of what is shown of a text to which `check` says yes.
-fn drawn(alloc: Global, form: Form, bytes: &[u8], part: Option<Part>) -> Result<Output, NoMemory>
+fn drawn(
+    alloc: Global,
+    form: Form,
+    bytes: &[u8],
+    part: Option<LineRange>,
+) -> Result<Output, NoMemory>
     requires few { length bytes.now < 2 ^ 31 }
     requires checked { IsChecked form bytes.now }
     ensures { IfOk result (λ o. (shown : Either PictureLists Fault) × Shows form bytes.now part shown × (answer_in o ≡ drawing_of bytes.now shown)) }
@@ -106,7 +111,7 @@ fn told_right(
     alloc: Global,
     form: Form,
     bytes: &[u8],
-    part: Option<Part>,
+    part: Option<LineRange>,
     checked: &Output,
 ) -> Result<Output, NoMemory>
     requires few { length bytes.now < 2 ^ 31 }
@@ -129,7 +134,7 @@ pub fn chart_output(
     alloc: Global,
     form: Form,
     bytes: &[u8],
-    part: Option<Part>,
+    part: Option<LineRange>,
 ) -> Result<Output, NoMemory>
     requires { length bytes.now < 2 ^ 31 }
     ensures { IfOk result (λ o. ChartAnswers form bytes.now part (answer_in o)) }

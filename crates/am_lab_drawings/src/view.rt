@@ -21,7 +21,7 @@ use am_check::place_of;
 pub use am_lab_picture::Picture;
 use am_scenario::{Form, read};
 pub use laws::{each_receipt_has_its_arrow, lanes_are_the_states, receipts_are_those_of_reasons};
-pub use parts::{Part, PictureFault};
+pub use parts::{LineRange, PictureFault};
 use std::alloc::Global;
 
 /// The picture of some lines of the report in a text which is that of a journal that follows the scenario in front of
@@ -33,7 +33,7 @@ pub fn picture(
     alloc: Global,
     form: Form,
     text: &[u8],
-    part: Option<Part>,
+    part: Option<LineRange>,
 ) -> Result<Picture, PictureFault>
     requires few { length text.now < 2 ^ 31 }
     requires checked { IsChecked form text.now }

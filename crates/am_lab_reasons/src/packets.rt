@@ -10,7 +10,7 @@ ghost use Rattle.std.specs.Prelude.{◌≡◌, ◌<◌, ◌^◌, ◌++◌, OnOk,
 
 use crate::receipts::TracedJournal;
 use am_names::{Packet, Way};
-use am_office_text::Piece::{Number, Text};
+use am_office_text::LinePiece::{Number, Text};
 use am_office_text::{count, put_end, put_spaced, put_word, small};
 use am_scenario_plan::{LinkFault, PlanLine};
 use std::alloc::AllocError;

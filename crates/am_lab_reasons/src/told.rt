@@ -10,9 +10,9 @@ use crate::touches::touches;
 use am_iface::emitted_of;
 use am_names::{Cause, NoMemory, Serial};
 use am_office_entries::{Entry, Fate, fate};
-use am_office_text::Piece::{Number, Text};
+use am_office_text::LinePiece::{Number, Text};
 use am_office_text::entry_lines::entry_line;
-use am_office_text::{Piece, put_word};
+use am_office_text::{LinePiece, put_word};
 use am_scenario_plan::PlanLine;
 use std::alloc::AllocError;
 
@@ -121,7 +121,7 @@ fn put_ending(out: &mut Vec<u8>, serial: Serial, fate: Option<Fate>) -> Result<(
     ensures { OnOk result (out.new.items ≡ out.old.items ++ ending serial fate) }
 {
     put_word(out, Text("message "))?;
-    put_word(out, Piece::Serial(serial))?;
+    put_word(out, LinePiece::Serial(serial))?;
     put_word(out, Text(" "))?;
     put_word(out, Text(end_text(fate)))
 }

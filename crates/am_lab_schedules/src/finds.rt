@@ -11,7 +11,7 @@ ghost use Rattle.std.specs.Prelude.{◌≡◌, ◌<◌, ◌≤◌, ◌⊎◌, �
 use crate::beginnings::has_line_with;
 use crate::one_seed::scenario_output;
 use am_main_lines::{Output, fault_output};
-use am_office_text::Piece::{Number, Text};
+use am_office_text::LinePiece::{Number, Text};
 use am_office_text::{put_end, put_line, put_word};
 use am_scenario::{Form, ReadFault, Scenario, read};
 use std::alloc::{AllocError, Global};

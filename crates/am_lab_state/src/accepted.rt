@@ -9,8 +9,8 @@ use crate::named::all_named;
 use am_machine::Cluster;
 use am_names::{Message, NoMemory, Serial};
 use am_office_entries::{Entry, accepted_of};
-use am_office_text::Piece::{Number, Text};
-use am_office_text::{Piece, put_line};
+use am_office_text::LinePiece::{Number, Text};
+use am_office_text::{LinePiece, put_line};
 use am_scenario::Scenario;
 use std::alloc::{AllocError, Global};
 
@@ -28,7 +28,7 @@ fn put_accepted(out: &mut Vec<u8>, number: u64, serial: Serial) -> Result<(), Al
     put_line(
         out,
         "message",
-        &[Piece::Serial(serial), Text("line"), Number(number)],
+        &[LinePiece::Serial(serial), Text("line"), Number(number)],
     )
 }
 

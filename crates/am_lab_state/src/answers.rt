@@ -18,7 +18,7 @@ use am_check::{place_of, split_head};
 use am_main_check::check_output;
 use am_main_lines::Output;
 use am_names::NoMemory;
-use am_office_text::Piece::Number;
+use am_office_text::LinePiece::Number;
 use am_office_text::put_line;
 use am_scenario::{Form, Scenario, read};
 use std::alloc::{AllocError, Global};

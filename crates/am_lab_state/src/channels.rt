@@ -16,8 +16,8 @@ use am_iface::Interface;
 use am_machine::Cluster;
 use am_names::{NodeId, Serial, Verdict};
 use am_office_entries::{Entry, Outcome};
-use am_office_text::Piece::{Number, Text};
-use am_office_text::{Piece, count, put_end, put_spaced, put_word, small, verdict_word};
+use am_office_text::LinePiece::{Number, Text};
+use am_office_text::{LinePiece, count, put_end, put_spaced, put_word, small, verdict_word};
 use am_scenario::Scenario;
 use std::alloc::AllocError;
 
@@ -57,7 +57,7 @@ fn put_holds(
         out,
         &[
             Text("holds"),
-            Piece::Serial(serial),
+            LinePiece::Serial(serial),
             Text("sequence"),
             Number(sequence),
             Text("attempt"),

@@ -4,7 +4,7 @@ ghost use Rattle.am_lab_state.specs.Differences.{difference, has_line, line_unle
 ghost use Rattle.std.specs.Prelude.{◌≡◌, ◌++◌, IfOk, OnOk};
 
 use am_lexer::next_line;
-use am_office_text::Piece::Text;
+use am_office_text::LinePiece::Text;
 use am_office_text::{put_bytes, put_end, put_word};
 use std::alloc::{AllocError, Global};
 

@@ -11,8 +11,8 @@ use crate::tables::put_tables;
 use am_endpoint::{Body, Endpoint};
 use am_machine::Cluster;
 use am_names::{EndpointId, NoMemory, Tag};
-use am_office_text::Piece::{Number, Text};
-use am_office_text::{Piece, count, put_line, small};
+use am_office_text::LinePiece::{Number, Text};
+use am_office_text::{LinePiece, count, put_line, small};
 use std::alloc::{AllocError, Global};
 
 fn put_tag(out: &mut Vec<u8>, end: EndpointId, tag: Tag) -> Result<(), AllocError>
@@ -21,7 +21,7 @@ fn put_tag(out: &mut Vec<u8>, end: EndpointId, tag: Tag) -> Result<(), AllocErro
     put_line(
         out,
         "endpoint",
-        &[small(end.0), Text("tag"), Piece::Tag(tag)],
+        &[small(end.0), Text("tag"), LinePiece::Tag(tag)],
     )
 }
 

@@ -8,7 +8,7 @@ ghost use Rattle.std.specs.Prelude.{◌≡◌, ◌++◌, OnOk};
 use am_model::Head;
 use am_names::{EndpointId, NodeId};
 use am_office_entries::Place;
-use am_office_text::Piece::Text;
+use am_office_text::LinePiece::Text;
 use am_office_text::{put_end, put_spaced, put_word, small};
 use std::alloc::AllocError;
 

@@ -11,7 +11,7 @@ use crate::unreceived::unreceived;
 use am_machine::Cluster;
 use am_names::{NoMemory, NodeId};
 use am_office_entries::Entry;
-use am_office_text::Piece::{Number, Text};
+use am_office_text::LinePiece::{Number, Text};
 use am_office_text::{count, put_end, put_line, put_numbers, put_spaced, put_word, small};
 use am_scenario::Scenario;
 use std::alloc::{AllocError, Global};

@@ -9,8 +9,8 @@ use am_block::List;
 use am_endpoint::Body;
 use am_model::{Flying, Notice, Queued};
 use am_names::{EndpointId, Message, NoMemory};
-use am_office_text::Piece::Text;
-use am_office_text::{Piece, kind_word, put_line, small, why_word};
+use am_office_text::LinePiece::Text;
+use am_office_text::{LinePiece, kind_word, put_line, small, why_word};
 use std::alloc::{AllocError, Global};
 
 // Appends a message that is to be sent.
@@ -24,7 +24,7 @@ fn put_queued(out: &mut Vec<u8>, end: EndpointId, queued: &Queued) -> Result<(),
             small(end.0),
             Text("queued"),
             Text(kind_word(queued.message.kind)),
-            Piece::Serial(queued.message.serial),
+            LinePiece::Serial(queued.message.serial),
             Text("bounces"),
             small(queued.bounces),
         ],
@@ -58,7 +58,7 @@ fn put_flying(out: &mut Vec<u8>, end: EndpointId, flying: &Flying) -> Result<(),
             small(end.0),
             Text("in-flight"),
             Text(kind_word(flying.message.kind)),
-            Piece::Serial(flying.message.serial),
+            LinePiece::Serial(flying.message.serial),
             Text("bounces"),
             small(flying.bounces),
             Text(answered_word(flying.answered)),
@@ -87,7 +87,7 @@ fn put_notice(out: &mut Vec<u8>, end: EndpointId, notice: &Notice) -> Result<(),
             small(end.0),
             Text("notice"),
             Text(kind_word(notice.message.kind)),
-            Piece::Serial(notice.message.serial),
+            LinePiece::Serial(notice.message.serial),
             Text("bounces"),
             small(notice.bounces),
             Text(why_word(notice.why)),
@@ -116,7 +116,7 @@ fn put_arrival(out: &mut Vec<u8>, end: EndpointId, message: &Message) -> Result<
             small(end.0),
             Text("received"),
             Text(kind_word(message.kind)),
-            Piece::Serial(message.serial),
+            LinePiece::Serial(message.serial),
         ],
     )
 }

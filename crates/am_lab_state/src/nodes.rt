@@ -12,7 +12,7 @@ use am_machine::Cluster;
 use am_model::{is_in_frame, is_on_disk};
 use am_names::{EndpointId, NoMemory, NodeId};
 use am_office_entries::{Entry, Event, Outcome};
-use am_office_text::Piece::Text;
+use am_office_text::LinePiece::Text;
 use am_office_text::{put_line, small};
 use am_scenario::{EndLine, Scenario};
 use std::alloc::AllocError;

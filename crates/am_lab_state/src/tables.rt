@@ -10,8 +10,8 @@ use am_endpoint::Body;
 use am_model::Awaited;
 use am_names::EndpointId;
 use am_office_entries::HandlerKind;
-use am_office_text::Piece::Text;
-use am_office_text::{Piece, put_line, small};
+use am_office_text::LinePiece::Text;
+use am_office_text::{LinePiece, put_line, small};
 use am_translate::Target;
 use std::alloc::AllocError;
 
@@ -46,7 +46,7 @@ fn put_mapping(
             Text("to"),
             small(target.name.0),
             Text("tag"),
-            Piece::Tag(target.tag),
+            LinePiece::Tag(target.tag),
             Text(credits_word(pool)),
             small(credits),
             Text("out"),
@@ -149,7 +149,7 @@ fn put_record(out: &mut Vec<u8>, end: EndpointId, held: Awaited) -> Result<(), A
         &[
             small(end.0),
             Text("record"),
-            Piece::Serial(held.serial),
+            LinePiece::Serial(held.serial),
             Text("index"),
             small(held.index),
             Text(arrived_word(held.arrived)),

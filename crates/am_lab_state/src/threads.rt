@@ -13,7 +13,7 @@ use am_cluster_scripted::calls_made;
 use am_machine::Cluster;
 use am_names::NoMemory;
 use am_office_entries::{Actor, Entry, Event, Outcome};
-use am_office_text::Piece::Text;
+use am_office_text::LinePiece::Text;
 use am_office_text::entry_lines::entry_line;
 use am_office_text::{put_line, put_spaced, put_word, small};
 use am_scenario::{Scenario, ScriptCall, ThreadLine};

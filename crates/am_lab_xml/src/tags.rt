@@ -8,7 +8,7 @@ ghost use Rattle.am_lab_xml.specs.Trees.{attribute, attributes, closing, opening
 ghost use Rattle.am_lab_xml.specs.Trees.{Content as Contents};
 
 use crate::escaped::put_text;
-use am_office_text::Piece::Number;
+use am_office_text::LinePiece::Number;
 use am_office_text::{put_bytes, put_word};
 use std::alloc::AllocError;
 

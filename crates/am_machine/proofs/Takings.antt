@@ -2,16 +2,16 @@
 use Rattle.std.proofs.Common.{◌≡◌, List, [], ◌∷◌, ◌++◌, map, reverse, sym, ap, ◌∙◌, append_assoc}
 use Rattle.std.proofs.lemmas.List.{append-nil, reverse-append, reverse-reverse}
 use Rattle.am_machine.specs.declared.node.NodePart.{NodePart}
-use Rattle.am_machine.specs.declared.node.taking.Taken.{Taken}
+use Rattle.am_machine.specs.declared.node.taking.TakenParts.{TakenParts}
 use Rattle.am_machine.specs.Node.Taken.{IsEmpty, IsTaken, IsTakenFrom, ends_of, iface_of, swap_of, turned}
 
 -- these parts are still to be taken, the last of them first
-pub record AreBeingTaken (whole rest : List NodePart) (t : Taken) : Type 0 where
+pub record AreBeingTaken (whole rest : List NodePart) (t : TakenParts) : Type 0 where
   pub ends' : map ends_of t.ends.items ++ map turned (reverse rest) ≡ map turned whole
   pub interfaces' : t.interfaces.items ++ map iface_of (reverse rest) ≡ map iface_of whole
   pub swaps' : t.swaps.items ++ map swap_of (reverse rest) ≡ map swap_of whole
 
-pub begins : (whole : List NodePart) (t : Taken) → IsEmpty t → AreBeingTaken whole (reverse whole) t
+pub begins : (whole : List NodePart) (t : TakenParts) → IsEmpty t → AreBeingTaken whole (reverse whole) t
 begins whole t e =
     record {
       ends' = (λ i. map ends_of (e.ends' i) ++ map turned (reverse-reverse whole i));
@@ -28,7 +28,7 @@ one_more {X} f had now rest p whole is made =
     ∙ ap (λ (ps : List NodePart). had ++ map f ps) (sym (reverse-append rest (p ∷ [])))
     ∙ made
 
-pub goes_on : (whole rest : List NodePart) (p : NodePart) (t u : Taken) → AreBeingTaken whole (rest ++ p ∷ []) t → IsTaken t p u → AreBeingTaken whole rest u
+pub goes_on : (whole rest : List NodePart) (p : NodePart) (t u : TakenParts) → AreBeingTaken whole (rest ++ p ∷ []) t → IsTaken t p u → AreBeingTaken whole rest u
 goes_on whole rest p t u a took =
     record {
       ends' = one_more turned (map ends_of t.ends.items) (map ends_of u.ends.items) rest p (map turned whole) took.ends' a.ends';
@@ -36,7 +36,7 @@ goes_on whole rest p t u a took =
       swaps' = one_more swap_of t.swaps.items u.swaps.items rest p (map swap_of whole) took.swaps' a.swaps';
     }
 
-pub ends : (whole : List NodePart) (t : Taken) → AreBeingTaken whole [] t → IsTakenFrom whole t
+pub ends : (whole : List NodePart) (t : TakenParts) → AreBeingTaken whole [] t → IsTakenFrom whole t
 ends whole t a =
     record {
       ends' = sym (append-nil (map ends_of t.ends.items)) ∙ a.ends';

@@ -13,7 +13,7 @@ pub use crate::node::dealing::deal;
 pub use crate::node::gathering::gather;
 pub use crate::node::journals::{index_of, journal_of};
 pub use crate::node::shells::{Shell, open_shells};
-pub use crate::node::taking::{Taken, room_for, take_apart};
+pub use crate::node::taking::{TakenParts, room_for, take_apart};
 use am_endpoint::Endpoint;
 use am_iface::Interface;
 use am_names::{NodeId, Packet};

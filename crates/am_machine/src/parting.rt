@@ -16,7 +16,7 @@ ghost use Rattle.std.specs.Prelude.{◌≡◌, ◌≤◌, [], false, length, vec
 
 use crate::Cluster;
 use crate::node::{
-    NodePart, Taken, assemble, deal, gather, index_of, journal_of, open_shells, room_for,
+    NodePart, TakenParts, assemble, deal, gather, index_of, journal_of, open_shells, room_for,
     take_apart,
 };
 use crate::parts::short_logs;
@@ -48,7 +48,7 @@ fn settings_from(scenario: &Scenario) -> Settings
 struct Frame {
     faults: Vec<FaultLine>,
     index: JournalIndex,
-    taken: Taken,
+    taken: TakenParts,
     ends: Vec<Endpoint>,
 }
 
@@ -120,7 +120,7 @@ impl Cluster {
             taken,
             ends,
         } = frame;
-        let Taken {
+        let TakenParts {
             ends: groups,
             interfaces,
             swaps,

@@ -8,7 +8,7 @@ use am_check::laws::yes_is_true;
 use am_check::{CheckStop, CheckWhat, check};
 use am_main_lines::{Output, condition_word, fault_output, full_output};
 use am_office_entries::Condition;
-use am_office_text::Piece::Text;
+use am_office_text::LinePiece::Text;
 use am_office_text::{count, put_line};
 use am_scenario::Form;
 use std::alloc::{AllocError, Global};

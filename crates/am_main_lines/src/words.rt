@@ -6,7 +6,7 @@ ghost use Rattle.am_session.specs.Answer.{what_word};
 
 use am_lexer::What;
 use am_office_entries::{Condition, Part};
-use am_office_text::Piece::Text;
+use am_office_text::LinePiece::Text;
 use am_office_text::{count, put_end, put_line, put_numbered};
 use am_scenario_types::ScenarioFault;
 use std::alloc::{AllocError, Global};

@@ -11,7 +11,7 @@ use am_cluster::{RunFault, RunJournal, alone};
 use am_main_lines::{Output, full_output};
 use am_office_entries::NoMemory;
 use am_office_report::summary;
-use am_office_text::Piece::{Number, Text};
+use am_office_text::LinePiece::{Number, Text};
 use am_office_text::put_line;
 use am_scenario::{Scenario, generate};
 use std::alloc::{AllocError, Global};

@@ -10,7 +10,7 @@ use crate::faults::StepFault;
 use crate::steps::step_text;
 use am_main_lines::{Output, condition_word, fault_output, full_output};
 use am_office_entries::Condition;
-use am_office_text::Piece::Text;
+use am_office_text::LinePiece::Text;
 use am_office_text::{count, put_line};
 use std::alloc::{AllocError, Global};
 

@@ -18,10 +18,10 @@ use crate::totals::totals_of;
 use am_names::{EndpointId, Serial, Words};
 use am_office_entries::logged::LoggedJournal;
 use am_office_entries::{Entry, Fate, NoMemory};
-use am_office_text::Piece::{Number, Text};
+use am_office_text::LinePiece::{Number, Text};
 use am_office_text::entry_lines::entry_line;
 use am_office_text::{
-    Piece, cause_word, kind_word, put_end, put_line, put_numbers, put_spaced, put_word, small,
+    LinePiece, cause_word, kind_word, put_end, put_line, put_numbers, put_spaced, put_word, small,
     why_word,
 };
 use std::alloc::{AllocError, Global};
@@ -64,7 +64,7 @@ fn put_handled(
     ensures { OnOk result (out.new.items ≡ out.old.items ++ line (codes "run") (printed.serial serial ∷ decimal handler ∷ decimal words.a ∷ decimal words.b ∷ decimal words.c ∷ decimal words.d ∷ [])) }
 {
     put_word(out, Text("run"))?;
-    put_spaced(out, &[Piece::Serial(serial)])?;
+    put_spaced(out, &[LinePiece::Serial(serial)])?;
     put_numbers(
         out,
         &[u64::from(handler), words.a, words.b, words.c, words.d],
@@ -83,7 +83,11 @@ fn put_run(out: &mut Vec<u8>, run: &Run) -> Result<(), AllocError>
             words,
         } => put_handled(out, serial, handler, words),
         Run::Zero { serial, why } => {
-            put_line(out, "zero", &[Piece::Serial(serial), Text(why_word(why))])
+            put_line(
+                out,
+                "zero",
+                &[LinePiece::Serial(serial), Text(why_word(why))],
+            )
         }
     }
 }
@@ -137,7 +141,7 @@ fn put_message(out: &mut Vec<u8>, message: &MessageFate) -> Result<(), AllocErro
 {
     put_word(out, Text("fate"))?;
     let kind = Text(kind_word(message.kind));
-    put_spaced(out, &[Piece::Serial(message.serial), kind])?;
+    put_spaced(out, &[LinePiece::Serial(message.serial), kind])?;
     put_fate(out, message.fate)?;
     put_end(out)
 }

@@ -6,7 +6,7 @@ mod pieces;
 mod words;
 
 pub use pieces::{
-    Piece, count, put_bytes, put_end, put_line, put_numbered, put_numbers, put_spaced, put_word,
-    small,
+    LinePiece, count, put_bytes, put_end, put_line, put_numbered, put_numbers, put_spaced,
+    put_word, small,
 };
 pub use words::{cause_word, kind_word, verdict_word, why_word};

@@ -6,7 +6,7 @@
 
 ghost use Rattle.std.specs.Prelude.{◌≡◌, ◌<◌, ◌≤◌, ◌+◌, ◌∷◌, ◌++◌, OnOk, codes, map};
 ghost use Rattle.std.specs.Fmt.{decimal};
-ghost use Rattle.am_office_text.specs.declared.pieces.Piece.TheVariants as Pieces;
+ghost use Rattle.am_office_text.specs.declared.pieces.LinePiece.TheVariants as Pieces;
 ghost use Rattle.am_office_text.specs.Words as text;
 ghost use Rattle.am_office_text.specs.Pieces.{Extends, word_of};
 
@@ -16,7 +16,7 @@ use std::alloc::AllocError;
 
 /// A word of a line.
 #[derive(Clone, Copy)]
-pub enum Piece {
+pub enum LinePiece {
     Text(&'static str),
     Number(u64),
     Serial(Serial),
@@ -24,17 +24,17 @@ pub enum Piece {
 }
 
 /// A small number as a word.
-pub fn small(number: u8) -> Piece
+pub fn small(number: u8) -> LinePiece
     ensures { result ≡ Pieces.Number number }
 {
-    Piece::Number(u64::from(number))
+    LinePiece::Number(u64::from(number))
 }
 
 /// A number of 32 bits as a word.
-pub fn count(number: u32) -> Piece
+pub fn count(number: u32) -> LinePiece
     ensures { result ≡ Pieces.Number number }
 {
-    Piece::Number(u64::from(number))
+    LinePiece::Number(u64::from(number))
 }
 
 /// Appends bytes as they are. Err where there is no memory.
@@ -172,15 +172,15 @@ fn put_spaced_tag(out: &mut Vec<u8>, tag: Tag) -> Result<(), AllocError>
 
 // Appends a space and a word.
 #[inline(always)]
-fn put_spaced_word(out: &mut Vec<u8>, word: Piece) -> Result<(), AllocError>
+fn put_spaced_word(out: &mut Vec<u8>, word: LinePiece) -> Result<(), AllocError>
     ensures ok { OnOk result (out.new.items ≡ out.old.items ++ codes " " ++ word_of word) }
     ensures kept { Extends out.old.items out.new.items }
 {
     match word {
-        Piece::Text(text) => put_text_after(out, b' ', text),
-        Piece::Number(number) => put_number_after(out, b' ', number),
-        Piece::Serial(serial) => put_spaced_serial(out, serial),
-        Piece::Tag(tag) => put_spaced_tag(out, tag),
+        LinePiece::Text(text) => put_text_after(out, b' ', text),
+        LinePiece::Number(number) => put_number_after(out, b' ', number),
+        LinePiece::Serial(serial) => put_spaced_serial(out, serial),
+        LinePiece::Tag(tag) => put_spaced_tag(out, tag),
     }
 }
 
@@ -229,15 +229,15 @@ fn put_tag(out: &mut Vec<u8>, tag: Tag) -> Result<(), AllocError>
 
 /// Appends a word.
 #[inline(always)]
-pub fn put_word(out: &mut Vec<u8>, word: Piece) -> Result<(), AllocError>
+pub fn put_word(out: &mut Vec<u8>, word: LinePiece) -> Result<(), AllocError>
     ensures ok { OnOk result (out.new.items ≡ out.old.items ++ word_of word) }
     ensures kept { Extends out.old.items out.new.items }
 {
     match word {
-        Piece::Text(text) => put_bytes(out, text.as_bytes()),
-        Piece::Number(number) => put_number(out, number),
-        Piece::Serial(serial) => put_serial(out, serial),
-        Piece::Tag(tag) => put_tag(out, tag),
+        LinePiece::Text(text) => put_bytes(out, text.as_bytes()),
+        LinePiece::Number(number) => put_number(out, number),
+        LinePiece::Serial(serial) => put_serial(out, serial),
+        LinePiece::Tag(tag) => put_tag(out, tag),
     }
 }
 
@@ -255,7 +255,7 @@ pub fn put_numbered(out: &mut Vec<u8>, letter: &str, number: u8) -> Result<(), A
 /// Appends each of the words after a space. What was there stays, also after an error.
 #[tactic(auto, using(crate::proofs::Extended::extension))]
 #[inline(always)]
-pub fn put_spaced(out: &mut Vec<u8>, words: &[Piece]) -> Result<(), AllocError>
+pub fn put_spaced(out: &mut Vec<u8>, words: &[LinePiece]) -> Result<(), AllocError>
     ensures ok { OnOk result (out.new.items ≡ out.old.items ++ text.spaced (map word_of words.now)) }
     ensures kept { Extends out.old.items out.new.items }
 {
@@ -273,7 +273,7 @@ pub fn put_numbers(out: &mut Vec<u8>, numbers: &[u64]) -> Result<(), AllocError>
     ensures kept { Extends out.old.items out.new.items }
 {
     for number in numbers {
-        put_spaced_word(out, Piece::Number(*number))?;
+        put_spaced_word(out, LinePiece::Number(*number))?;
     }
     Ok(())
 }
@@ -290,11 +290,15 @@ pub fn put_end(out: &mut Vec<u8>) -> Result<(), AllocError>
 /// Appends a line: its words with one space between them, and its end.
 #[tactic(auto, using(crate::proofs::Extended::extension))]
 #[inline(always)]
-pub fn put_line(out: &mut Vec<u8>, first: &'static str, rest: &[Piece]) -> Result<(), AllocError>
+pub fn put_line(
+    out: &mut Vec<u8>,
+    first: &'static str,
+    rest: &[LinePiece],
+) -> Result<(), AllocError>
     ensures ok { OnOk result (out.new.items ≡ out.old.items ++ text.line first.now (map word_of rest.now)) }
     ensures kept { Extends out.old.items out.new.items }
 {
-    put_word(out, Piece::Text(first))?;
+    put_word(out, LinePiece::Text(first))?;
     put_spaced(out, rest)?;
     put_end(out)
 }

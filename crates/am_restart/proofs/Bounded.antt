@@ -19,7 +19,7 @@ use Rattle.am_restart.specs.declared.events.SessionOutcome.{SessionOutcome}
 use Rattle.am_restart.specs.declared.events.SessionOutcome.TheVariants as Out
 use Rattle.am_restart.specs.declared.moves.Change.{Change}
 use Rattle.am_restart.specs.declared.moves.Change.TheVariants as Changes
-use Rattle.am_restart.specs.declared.moves.Move.{Move}
+use Rattle.am_restart.specs.declared.moves.SessionMove.{SessionMove}
 use Rattle.am_restart.specs.declared.packets.SessionParcel.{SessionParcel}
 use Rattle.am_restart.specs.declared.packets.SessionAnswer.{SessionAnswer}
 use Rattle.am_restart.specs.declared.packets.SenderPacket.{SenderPacket}
@@ -69,14 +69,14 @@ traffic_within (Changes.Answers p) t n is e =
     record { offered = omega arith; from_sender = omega arith; from_receiver = longer t.from_receiver p n is.from_receiver; numbered = is.numbered }
 
 -- a move after which the numbers are bounded
-record IsBoundedMove (n : ℕ) (m : Move) : Type 0 where
+record IsBoundedMove (n : ℕ) (m : SessionMove) : Type 0 where
   sender : m.sender.incarnation ≤ n + 2
   receiver : m.receiver.incarnation ≤ n + 2
   seq : m.sender.end.seq ≤ n + 1
   begun : IfSome m.sender.end.bound (λ _. 1 ≤ m.sender.end.seq)
   numbered : EmitsNumbered m.change
 
-moves_within : (s : SessionState) (m : Move) → IsBounded s → IsBoundedMove s.events m → IsBounded (moved m s)
+moves_within : (s : SessionState) (m : SessionMove) → IsBounded s → IsBoundedMove s.events m → IsBounded (moved m s)
 moves_within s m is at =
     let t : IsCounted (changed m.change s.traffic) (s.events + 1) = traffic_within m.change s.traffic s.events (record {
       offered = is.offered;

@@ -21,7 +21,7 @@ use Rattle.am_restart.specs.declared.events.SessionOutcome.{SessionOutcome}
 use Rattle.am_restart.specs.declared.events.SessionOutcome.TheVariants as Out
 use Rattle.am_restart.specs.declared.moves.Change.{Change}
 use Rattle.am_restart.specs.declared.moves.Change.TheVariants as Changes
-use Rattle.am_restart.specs.declared.moves.Move.{Move}
+use Rattle.am_restart.specs.declared.moves.SessionMove.{SessionMove}
 use Rattle.am_restart.specs.declared.packets.SessionParcel.{SessionParcel}
 use Rattle.am_restart.specs.declared.packets.SessionAnswer.{SessionAnswer}
 use Rattle.am_restart.specs.declared.packets.SenderPacket.{SenderPacket}
@@ -78,13 +78,13 @@ pub data GoesOn (s : SessionState) (τ : Sender) : Type 0 where
       τ ≡ new_sender s.sender.incarnation receiver → GoesOn s τ
   Restarts : τ ≡ new_sender (s.sender.incarnation + 1) 0 → GoesOn s τ
 
-abbrev pub turn : SessionState → SessionOutcome → Receiver → Change → Move
+abbrev pub turn : SessionState → SessionOutcome → Receiver → Change → SessionMove
 turn s outcome receiver change = record { outcome = outcome; sender = s.sender; receiver = receiver; change = change }
 
-abbrev pub go : SessionState → SessionOutcome → Sender → Change → Move
+abbrev pub go : SessionState → SessionOutcome → Sender → Change → SessionMove
 go s outcome sender change = record { outcome = outcome; sender = sender; receiver = s.receiver; change = change }
 
-pub data Kind (s : SessionState) (m : Move) : Type 0 where
+pub data Kind (s : SessionState) (m : SessionMove) : Type 0 where
   Quiet : (o : SessionOutcome) → IsMute o → m ≡ still s o → Kind s m
   Offers : m ≡ go s (Out.Offered (s.traffic.offered + 1)) s.sender Changes.Offers → Kind s m
   Hellos : m ≡ go s (Out.Hello (next_of_sender s)) s.sender (Changes.Sends (FromSender.Hello s.sender.incarnation)) → Kind s m
@@ -109,7 +109,7 @@ pub data Kind (s : SessionState) (m : Move) : Type 0 where
       s.receiver.newest ≤ p.sender → arrival (Ends.met p.sender s.receiver).end p.seq p.attempt ≡ Arrivals.Fresh →
       m ≡ arrives s (Ends.met p.sender s.receiver) say p Arrivals.Fresh → Kind s m
 
-quiet : (s : SessionState) (m : Move) → m ≡ still s Out.Done → Kind s m
+quiet : (s : SessionState) (m : SessionMove) → m ≡ still s Out.Done → Kind s m
 quiet s m is = Quiet Out.Done (mute Out.Done refl refl refl refl refl) is
 
 bind_kind : (s : SessionState) (front : Option ℕ) → slice_get s.traffic.queue 0 ≡ front → s.sender.end.bound ≡ None → Kind s (bind_of s front)
@@ -130,10 +130,10 @@ expire_kind s (Some b) is = by_test (nat_lt (b.attempt + 1) s.tries)
       delivers' = refl;
     }) (Frees refl) refl
 
-nothing : (s : SessionState) (m : Move) → m ≡ still s Out.Nothing → Kind s m
+nothing : (s : SessionState) (m : SessionMove) → m ≡ still s Out.Nothing → Kind s m
 nothing s m is = Quiet Out.Nothing (mute Out.Nothing refl refl refl refl refl) is
 
-stale : (s : SessionState) (m : Move) → m ≡ still s Out.Stale → Kind s m
+stale : (s : SessionState) (m : SessionMove) → m ≡ still s Out.Stale → Kind s m
 stale s m is = Quiet Out.Stale (mute Out.Stale refl refl refl refl refl) is
 
 welcome_kind : (s : SessionState) (sender receiver : ℕ) (t : Bool) → Among (FromReceiver.Welcome sender receiver) s.traffic.from_receiver →

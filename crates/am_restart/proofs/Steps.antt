@@ -15,7 +15,7 @@ use Rattle.am_restart.specs.declared.events.SessionEntry.{SessionEntry}
 use Rattle.am_restart.specs.declared.events.SessionOutcome.{SessionOutcome}
 use Rattle.am_restart.specs.declared.events.SessionOutcome.TheVariants as Out
 use Rattle.am_restart.specs.declared.moves.Change.TheVariants as Changes
-use Rattle.am_restart.specs.declared.moves.Move.{Move}
+use Rattle.am_restart.specs.declared.moves.SessionMove.{SessionMove}
 use Rattle.am_restart.specs.declared.packets.SessionParcel.{SessionParcel}
 use Rattle.am_restart.specs.declared.packets.SenderPacket.TheVariants as FromSender
 use Rattle.am_restart.specs.declared.packets.ReceiverPacket.{ReceiverPacket}
@@ -38,7 +38,7 @@ use Rattle.am_restart.proofs.Placing.{Pushed, pushed, places_same, places_free, 
 use Rattle.am_model.proofs.Received.{bit}
 
 -- what holds after a move, with what is taken then
-pub record After (s : SessionState) (m : Move) (next : List SessionEntry) : Type 0 where
+pub record After (s : SessionState) (m : SessionMove) (next : List SessionEntry) : Type 0 where
   pub taken : List SessionParcel
   pub holds : Holds (moved m s) taken next
 
@@ -381,23 +381,23 @@ decide s taken past x p Bad h d e is =
     }
 
 -- one entry more, where its outcome tells this
-told : (past : List SessionEntry) (x : SessionEntry) (m : Move) (outcome : SessionOutcome) (o p r u d : Option ℕ) → x.outcome ≡ m.outcome →
+told : (past : List SessionEntry) (x : SessionEntry) (m : SessionMove) (outcome : SessionOutcome) (o p r u d : Option ℕ) → x.outcome ≡ m.outcome →
     m.outcome ≡ outcome → Tells outcome o p r u d → Pushed past (past ++ x ∷ []) o p r u d
 told past x m outcome o p r u d is at tells = pushed past x o p r u d (subst (λ (q : SessionOutcome). Tells q o p r u d) (sym (is ∙ at)) tells)
 
-after : (s : SessionState) (m n : Move) (taken : List SessionParcel) (next : List SessionEntry) → m ≡ n → Holds (moved n s) taken next → After s m next
-after s m n taken next is holds = record { taken = taken; holds = subst (λ (k : Move). Holds (moved k s) taken next) (sym is) holds }
+after : (s : SessionState) (m n : SessionMove) (taken : List SessionParcel) (next : List SessionEntry) → m ≡ n → Holds (moved n s) taken next → After s m next
+after s m n taken next is holds = record { taken = taken; holds = subst (λ (k : SessionMove). Holds (moved k s) taken next) (sym is) holds }
 
 -- what holds of a session holds after a move of each kind
-pub step : (s : SessionState) (taken : List SessionParcel) (past : List SessionEntry) (x : SessionEntry) (m : Move) → Holds s taken past → Kind s m →
+pub step : (s : SessionState) (taken : List SessionParcel) (past : List SessionEntry) (x : SessionEntry) (m : SessionMove) → Holds s taken past → Kind s m →
     x.outcome ≡ m.outcome → After s m (past ++ x ∷ [])
 step s taken past x m h (Quiet o is_mute e) is =
     after s m (still s o) taken (past ++ x ∷ []) e (quiet s taken past (past ++ x ∷ []) o h
-    (told past x m o None None None None None is (ap (λ (k : Move). k.outcome) e) is_mute))
+    (told past x m o None None None None None is (ap (λ (k : SessionMove). k.outcome) e) is_mute))
 step s taken past x m h (Offers e) is =
     after s m (go s (Out.Offered (s.traffic.offered + 1)) s.sender Changes.Offers) taken (past ++ x ∷ []) e
     (offer s taken past (past ++ x ∷ []) (Out.Offered (s.traffic.offered + 1)) h (told past x m (Out.Offered (s.traffic.offered + 1))
-    (Some (s.traffic.offered + 1)) None None None None is (ap (λ (k : Move). k.outcome) e) (record {
+    (Some (s.traffic.offered + 1)) None None None None is (ap (λ (k : SessionMove). k.outcome) e) (record {
       offers' = refl;
       puts' = refl;
       returns' = refl;
@@ -407,30 +407,30 @@ step s taken past x m h (Offers e) is =
 step s taken past x m h (Hellos e) is =
     after s m (go s (Out.Hello (next_of_sender s)) s.sender (Changes.Sends (FromSender.Hello s.sender.incarnation))) taken (past ++ x ∷ []) e
     (hello s taken past (past ++ x ∷ []) (Out.Hello (next_of_sender s)) s.sender.incarnation h
-    (told past x m (Out.Hello (next_of_sender s)) None None None None None is (ap (λ (k : Move). k.outcome) e)
+    (told past x m (Out.Hello (next_of_sender s)) None None None None None is (ap (λ (k : SessionMove). k.outcome) e)
     (mute (Out.Hello (next_of_sender s)) refl refl refl refl refl)))
 step s taken past x m h (Binds n front idle e) is =
     after s m (bind_of s (Some n)) taken (past ++ x ∷ []) e
-    (bind s taken past (past ++ x ∷ []) n h front idle (told past x m (bind_of s (Some n)).outcome None None None None None is (ap (λ (k : Move). k.outcome) e)
+    (bind s taken past (past ++ x ∷ []) n h front idle (told past x m (bind_of s (Some n)).outcome None None None None None is (ap (λ (k : SessionMove). k.outcome) e)
     (mute (bind_of s (Some n)).outcome refl refl refl refl refl)))
 step s taken past x m h (Resends b bound e) is =
     after s m (expire_by s (Times.Resend (record { seq = s.sender.end.seq; attempt = b.attempt + 1 })) b) taken (past ++ x ∷ []) e
     (resend s taken past (past ++ x ∷ []) b h bound (told past x m (Out.Sent (number_of b) s.sender.end.seq (b.attempt + 1) (next_of_sender s)) None None None
-    None None is (ap (λ (k : Move). k.outcome) e) (mute (Out.Sent (number_of b) s.sender.end.seq (b.attempt + 1) (next_of_sender s)) refl refl refl refl
+    None None is (ap (λ (k : SessionMove). k.outcome) e) (mute (Out.Sent (number_of b) s.sender.end.seq (b.attempt + 1) (next_of_sender s)) refl refl refl refl
     refl)))
 step s taken past x m h (Idles o τ idle is_mute on e) is =
     after s m (go s o τ Changes.Nothing) taken (past ++ x ∷ []) e
-    (lose s taken past (past ++ x ∷ []) o τ None None h on (told past x m o None None None None None is (ap (λ (k : Move). k.outcome) e) is_mute)
+    (lose s taken past (past ++ x ∷ []) o τ None None h on (told past x m o None None None None None is (ap (λ (k : SessionMove). k.outcome) e) is_mute)
     (λ n. ap (bound_bit n) idle))
 step s taken past x m h (Loses b o τ bound tells on e) is =
     after s m (go s o τ Changes.Nothing) taken (past ++ x ∷ []) e
     (lose s taken past (past ++ x ∷ []) o τ (Some (number_of b)) None h on (told past x m o None None None (Some (number_of b)) None is
-    (ap (λ (k : Move). k.outcome) e) tells) (λ n. let at : bound_bit n s.sender.end.bound ≡ bit (n == number_of b) = ap (bound_bit n) bound in
+    (ap (λ (k : SessionMove). k.outcome) e) tells) (λ n. let at : bound_bit n s.sender.end.bound ≡ bit (n == number_of b) = ap (bound_bit n) bound in
     omega (arith, at)))
 step s taken past x m h (Delivers b bound e) is =
     after s m (go s (Out.Delivered (number_of b)) (unbound s.sender) Changes.Nothing) taken (past ++ x ∷ []) e
     (lose s taken past (past ++ x ∷ []) (Out.Delivered (number_of b)) (unbound s.sender) None (Some (number_of b)) h (Frees refl)
-    (told past x m (Out.Delivered (number_of b)) None None None None (Some (number_of b)) is (ap (λ (k : Move). k.outcome) e) (record {
+    (told past x m (Out.Delivered (number_of b)) None None None None (Some (number_of b)) is (ap (λ (k : SessionMove). k.outcome) e) (record {
       offers' = refl;
       puts' = refl;
       returns' = refl;
@@ -441,7 +441,7 @@ step s taken past x m h (Delivers b bound e) is =
 step s taken past x m h (Returns b bound refusal e) is =
     after s m (go s (Out.Returned (number_of b)) (unbound s.sender) Changes.Nothing) taken (past ++ x ∷ []) e
     (return s taken past (past ++ x ∷ []) (Out.Returned (number_of b)) b h bound refusal
-    (told past x m (Out.Returned (number_of b)) None None (Some (number_of b)) None None is (ap (λ (k : Move). k.outcome) e) (record {
+    (told past x m (Out.Returned (number_of b)) None None (Some (number_of b)) None None is (ap (λ (k : SessionMove). k.outcome) e) (record {
       offers' = refl;
       puts' = refl;
       returns' = refl;
@@ -451,19 +451,19 @@ step s taken past x m h (Returns b bound refusal e) is =
 step s taken past x m h (Requeues b bound refusal e) is =
     after s m (go s (Out.Requeued (number_of b)) (unbound s.sender) (Changes.Requeues (number_of b))) taken (past ++ x ∷ []) e
     (requeue s taken past (past ++ x ∷ []) (Out.Requeued (number_of b)) b h bound refusal
-    (told past x m (Out.Requeued (number_of b)) None None None None None is (ap (λ (k : Move). k.outcome) e)
+    (told past x m (Out.Requeued (number_of b)) None None None None None is (ap (λ (k : SessionMove). k.outcome) e)
     (mute (Out.Requeued (number_of b)) refl refl refl refl refl)))
 step s taken past x m h (Turns o r is_mute stays e) is =
     after s m (turn s o r Changes.Nothing) taken (past ++ x ∷ []) e (turned s taken past (past ++ x ∷ []) o r h
-    (told past x m o None None None None None is (ap (λ (k : Move). k.outcome) e) is_mute) stays)
+    (told past x m o None None None None None is (ap (λ (k : SessionMove). k.outcome) e) is_mute) stays)
 step s taken past x m h (Welcomes sender r stays e) is =
     after s m (welcomes s r sender) taken (past ++ x ∷ []) e
     (emits s taken past (past ++ x ∷ []) (Out.Welcome (next_of_receiver s)) r (FromReceiver.Welcome sender r.incarnation) h
-    (told past x m (Out.Welcome (next_of_receiver s)) None None None None None is (ap (λ (k : Move). k.outcome) e)
+    (told past x m (Out.Welcome (next_of_receiver s)) None None None None None is (ap (λ (k : SessionMove). k.outcome) e)
     (mute (Out.Welcome (next_of_receiver s)) refl refl refl refl refl)) stays (omega arith))
 step s taken past x m h (Repeats p say v emitted own newer arrived e) is =
     let more : Pushed past (past ++ x ∷ []) None None None None None =
-    told past x m (Out.Again p.message (next_of_receiver s)) None None None None None is (ap (λ (k : Move). k.outcome) e)
+    told past x m (Out.Again p.message (next_of_receiver s)) None None None None None is (ap (λ (k : SessionMove). k.outcome) e)
     (mute (Out.Again p.message (next_of_receiver s)) refl refl refl refl refl) in
     let stays : Stays (point s.receiver) (point (Ends.met p.sender s.receiver)) = (has_met s.receiver p.sender).stays in
     after s m (arrives s (Ends.met p.sender s.receiver) say p (Arrivals.Again v)) taken (past ++ x ∷ []) e
@@ -473,5 +473,5 @@ step s taken past x m h (Repeats p say v emitted own newer arrived e) is =
     (point s.receiver) (point (Ends.met p.sender s.receiver)) taken h.receiver' stays) own newer arrived))
 step s taken past x m h (Decides p say emitted own newer arrived e) is =
     let there : After s (arrives s (Ends.met p.sender s.receiver) say p Arrivals.Fresh) (past ++ x ∷ []) =
-    decide s taken past x p say h (decision s p own newer arrived) emitted (is ∙ ap (λ (k : Move). k.outcome) e) in
+    decide s taken past x p say h (decision s p own newer arrived) emitted (is ∙ ap (λ (k : SessionMove). k.outcome) e) in
     after s m (arrives s (Ends.met p.sender s.receiver) say p Arrivals.Fresh) there.taken (past ++ x ∷ []) e there.holds

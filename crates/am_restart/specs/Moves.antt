@@ -24,7 +24,7 @@ use Rattle.am_restart.specs.declared.events.SessionOutcome.{SessionOutcome}
 use Rattle.am_restart.specs.declared.events.SessionOutcome.TheVariants as Out
 use Rattle.am_restart.specs.declared.moves.Change.{Change}
 use Rattle.am_restart.specs.declared.moves.Change.TheVariants as Changes
-use Rattle.am_restart.specs.declared.moves.Move.{Move}
+use Rattle.am_restart.specs.declared.moves.SessionMove.{SessionMove}
 use Rattle.am_restart.specs.declared.packets.SessionParcel.{SessionParcel}
 use Rattle.am_restart.specs.declared.packets.SessionAnswer.{SessionAnswer}
 use Rattle.am_restart.specs.declared.packets.SenderPacket.{SenderPacket}
@@ -55,7 +55,7 @@ abbrev pub next_of_receiver : SessionState → ℕ
 next_of_receiver s = length s.traffic.from_receiver + 1
 
 -- an outcome with which nothing changes
-abbrev pub still : SessionState → SessionOutcome → Move
+abbrev pub still : SessionState → SessionOutcome → SessionMove
 still s outcome = record { outcome = outcome; sender = s.sender; receiver = s.receiver; change = Changes.Nothing }
 
 -- a parcel of the sender's: to the incarnation that it knows
@@ -64,7 +64,7 @@ parcel_from sender seq attempt message =
     FromSender.Parcel (record { sender = sender.incarnation; receiver = sender.peer; seq = seq; attempt = attempt; message = message })
 
 -- the queue's front is bound, and its first parcel goes out
-abbrev pub bind_of : SessionState → Option ℕ → Move
+abbrev pub bind_of : SessionState → Option ℕ → SessionMove
 bind_of s None = still s Out.Done
 bind_of s (Some message) =
     record (still s (Out.Sent message (s.sender.end.seq + 1) 0 (next_of_sender s))) {
@@ -77,7 +77,7 @@ abbrev pub unbound : Sender → Sender
 unbound sender = record sender { end = record sender.end { bound = None } }
 
 -- the next try goes out, or the message is given up
-abbrev pub expire_by : SessionState → TimedOut → Bound → Move
+abbrev pub expire_by : SessionState → TimedOut → Bound → SessionMove
 expire_by s (Times.Resend sent) b =
     record (still s (Out.Sent (number_of b) sent.seq sent.attempt (next_of_sender s))) {
       sender = record s.sender { end = record s.sender.end { bound = Some (record b { attempt = sent.attempt }) } };
@@ -85,7 +85,7 @@ expire_by s (Times.Resend sent) b =
     }
 expire_by s (Times.GaveUp gone) b = record (still s (Out.Unknown (number_of b))) { sender = unbound s.sender }
 
-abbrev pub expire_of : SessionState → Option Bound → Move
+abbrev pub expire_of : SessionState → Option Bound → SessionMove
 expire_of s None = still s Out.Done
 expire_of s (Some b) = expire_by s (timed_out s.tries s.sender.end.seq b) b
 
@@ -96,30 +96,30 @@ forgotten (Some b) = Out.Unknown (number_of b)
 
 -- THE SENDER RECEIVES A WELCOME: one for its own incarnation, from a greater one than it knows, makes that known and the end
 -- new; a bound message is unknown then. Any other is nothing.
-abbrev pub welcomed : SessionState → ℕ → Bool → Move
+abbrev pub welcomed : SessionState → ℕ → Bool → SessionMove
 welcomed s receiver false = still s Out.Nothing
 welcomed s receiver true = record (still s (Out.Peer receiver (option_map number_of s.sender.end.bound))) { sender = new_sender s.sender.incarnation receiver }
 
 -- a message that was refused for a passing cause goes to the queue's tail, and else it is returned
-abbrev pub refused : SessionState → Sender → ℕ → Bool → Move
+abbrev pub refused : SessionState → Sender → ℕ → Bool → SessionMove
 refused s sender message true = record (still s (Out.Requeued message)) { sender = sender; change = Changes.Requeues message }
 refused s sender message false = record (still s (Out.Returned message)) { sender = sender }
 
-abbrev pub settled_by : SessionState → Sender → ℕ → Verdict → Move
+abbrev pub settled_by : SessionState → Sender → ℕ → Verdict → SessionMove
 settled_by s sender message Verdicts.Accepted = record (still s (Out.Delivered message)) { sender = sender }
 settled_by s sender message (Verdicts.Refused cause) = refused s sender message (is_transient cause)
 
-abbrev pub settle_by : SessionState → Settled → Move
+abbrev pub settle_by : SessionState → Settled → SessionMove
 settle_by s Settles.Nothing = still s Out.Nothing
 settle_by s (Settles.Done b verdict) = settled_by s (unbound s.sender) (number_of b) verdict
 
 -- THE SENDER RECEIVES AN ANSWER: one of both current incarnations settles what the channel's sending end says. Any other is
 -- nothing.
-abbrev pub answered : SessionState → SessionAnswer → Bool → Move
+abbrev pub answered : SessionState → SessionAnswer → Bool → SessionMove
 answered s a false = still s Out.Nothing
 answered s a true = settle_by s (settled s.sender.end (answer_of a))
 
-abbrev pub sender_receives : SessionState → Option ReceiverPacket → Move
+abbrev pub sender_receives : SessionState → Option ReceiverPacket → SessionMove
 sender_receives s None = still s Out.Done
 sender_receives s (Some (FromReceiver.Welcome sender receiver)) =
     welcomed s receiver (sender == s.sender.incarnation && nat_lt s.sender.peer receiver)
@@ -127,13 +127,13 @@ sender_receives s (Some (FromReceiver.Answer a)) =
     answered s a (a.sender == s.sender.incarnation && (a.receiver == s.sender.peer))
 
 -- the receiver emits a welcome for a sender of this incarnation
-abbrev pub welcomes : SessionState → Receiver → ℕ → Move
+abbrev pub welcomes : SessionState → Receiver → ℕ → SessionMove
 welcomes s receiver sender =
     record (still s (Out.Welcome (next_of_receiver s))) { receiver = receiver; change = Changes.Answers (FromReceiver.Welcome sender receiver.incarnation) }
 
 -- THE RECEIVER RECEIVES A HELLO: one of an earlier incarnation than it has seen is stale; any other is welcomed, and a greater
 -- one makes the end new.
-abbrev pub hello_arrives : SessionState → ℕ → Move
+abbrev pub hello_arrives : SessionState → ℕ → SessionMove
 hello_arrives s sender = if nat_lt sender s.receiver.newest then still s Out.Stale else welcomes s (met sender s.receiver) sender
 
 -- the answer to a parcel
@@ -151,7 +151,7 @@ abbrev pub keeps : Receiver → SessionParcel → Verdict → Receiver
 keeps r p verdict = record r { end = record { seq = p.seq; attempt = p.attempt; verdict = verdict } }
 
 -- what a parcel is to the receiving end: stale, answered again by the verdict that stands, or fresh
-abbrev pub arrives : SessionState → Receiver → Say → SessionParcel → Arrival → Move
+abbrev pub arrives : SessionState → Receiver → Say → SessionParcel → Arrival → SessionMove
 arrives s receiver say p Arrivals.Stale = record (still s Out.Stale) { receiver = receiver }
 arrives s receiver say p (Arrivals.Again verdict) = record (still s (Out.Again p.message (next_of_receiver s))) { receiver = receiver; change = answer_to p verdict }
 arrives s receiver say p Arrivals.Fresh =
@@ -162,7 +162,7 @@ arrives s receiver say p Arrivals.Fresh =
 
 -- THE RECEIVER RECEIVES A PARCEL: one for another incarnation than its own is answered by a welcome; else one of an earlier
 -- incarnation than it has seen is stale; else the channel's receiving end says what it is, which a greater one makes new.
-abbrev pub parcel_arrives : SessionState → Say → SessionParcel → Move
+abbrev pub parcel_arrives : SessionState → Say → SessionParcel → SessionMove
 parcel_arrives s say p =
     if p.receiver == s.receiver.incarnation
     then
@@ -171,13 +171,13 @@ parcel_arrives s say p =
     else arrives s (met p.sender s.receiver) say p (arrival (met p.sender s.receiver).end p.seq p.attempt))
     else welcomes s s.receiver p.sender
 
-abbrev pub receiver_receives : SessionState → Say → Option SenderPacket → Move
+abbrev pub receiver_receives : SessionState → Say → Option SenderPacket → SessionMove
 receiver_receives s say None = still s Out.Done
 receiver_receives s say (Some (FromSender.Hello sender)) = hello_arrives s sender
 receiver_receives s say (Some (FromSender.Parcel p)) = parcel_arrives s say p
 
 -- what an event does
-abbrev pub move_of : SessionState → SessionEvent → Move
+abbrev pub move_of : SessionState → SessionEvent → SessionMove
 move_of s Events.Offer = record (still s (Out.Offered (s.traffic.offered + 1))) { change = Changes.Offers }
 move_of s Events.Hello = record (still s (Out.Hello (next_of_sender s))) { change = Changes.Sends (FromSender.Hello s.sender.incarnation) }
 move_of s Events.Bind = bind_of s (slice_get s.traffic.queue 0)

@@ -4,7 +4,7 @@ use Rattle.am_restart.specs.declared.ends.Sender.{Sender}
 use Rattle.am_restart.specs.declared.ends.Receiver.{Receiver}
 use Rattle.am_restart.specs.declared.moves.Change.{Change}
 use Rattle.am_restart.specs.declared.moves.Change.TheVariants as Changes
-use Rattle.am_restart.specs.declared.moves.Move.{Move}
+use Rattle.am_restart.specs.declared.moves.SessionMove.{SessionMove}
 use Rattle.am_restart.specs.Traffics.{Traffic}
 use Rattle.am_restart.specs.Ends.{new_sender, new_receiver}
 
@@ -42,5 +42,5 @@ changed (Changes.Sends packet) t = record t { from_sender = t.from_sender ++ pac
 changed (Changes.Answers packet) t = record t { from_receiver = t.from_receiver ++ packet ∷ [] }
 
 -- the session after a move
-abbrev pub moved : Move → SessionState → SessionState
+abbrev pub moved : SessionMove → SessionState → SessionState
 moved m s = record { tries = s.tries; events = s.events + 1; traffic = changed m.change s.traffic; sender = m.sender; receiver = m.receiver }

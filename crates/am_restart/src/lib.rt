@@ -19,7 +19,7 @@ pub use crate::events::{
     Say, SessionCondition, SessionEntry, SessionEvent, SessionFault, SessionOutcome,
 };
 pub use crate::fates::SessionFate;
-pub use crate::moves::{Change, Move};
+pub use crate::moves::{Change, SessionMove};
 pub use crate::packets::{ReceiverPacket, SenderPacket, SessionAnswer, SessionParcel};
 pub use crate::rows::{
     a_delayed_try_is_put, a_message_that_was_put_is_unknown, a_receiver_restarts,

@@ -22,7 +22,7 @@ pub enum Change {
 
 /// What an event does: its outcome, what both interfaces know after it, and what it changes beside them.
 #[derive(Clone, Copy)]
-pub struct Move {
+pub struct SessionMove {
     pub outcome: SessionOutcome,
     pub sender: Sender,
     pub receiver: Receiver,

@@ -9,7 +9,7 @@ ghost use Rattle.std.specs.Prelude.{◌≡◌, ◌<◌, ◌≤◌, ◌^◌, IfSo
 
 use crate::ends::Receiver;
 use crate::events::{Say, SessionOutcome};
-use crate::moves::{Change, Move};
+use crate::moves::{Change, SessionMove};
 use crate::packets::{ReceiverPacket, SenderPacket, SessionAnswer, SessionParcel, parcel_of};
 use crate::session::Session;
 use am_channel::Arrival;
@@ -51,11 +51,11 @@ fn decided(parcel: &SessionParcel, answer: u32, verdict: Verdict) -> SessionOutc
 }
 
 impl Session {
-    pub(crate) fn receiver_restarts(&self) -> Move
+    pub(crate) fn receiver_restarts(&self) -> SessionMove
         requires { self.now.events < 2 ^ 31 }
         ensures { result ≡ moves.move_of self.now Events.ReceiverRestart }
     {
-        Move {
+        SessionMove {
             outcome: SessionOutcome::Done,
             sender: self.sender,
             receiver: Receiver::new(self.receiver.incarnation + 1, 0),
@@ -64,11 +64,11 @@ impl Session {
     }
 
     // A welcome for a sender of this incarnation.
-    fn welcomes(&self, receiver: Receiver, sender: u32) -> Move
+    fn welcomes(&self, receiver: Receiver, sender: u32) -> SessionMove
         requires { self.now.events < 2 ^ 31 }
         ensures { result ≡ moves.welcomes self.now receiver sender }
     {
-        Move {
+        SessionMove {
             outcome: SessionOutcome::Welcome(self.next_of_receiver()),
             sender: self.sender,
             receiver,
@@ -79,7 +79,7 @@ impl Session {
         }
     }
 
-    fn hello_arrives(&self, sender: u32) -> Move
+    fn hello_arrives(&self, sender: u32) -> SessionMove
         requires { self.now.events < 2 ^ 31 }
         ensures { result ≡ moves.hello_arrives self.now sender }
     {
@@ -90,7 +90,7 @@ impl Session {
     }
 
     // A parcel to this receiver, which has seen its sender.
-    fn arrives(&self, receiver: Receiver, say: Say, parcel: &SessionParcel) -> Move
+    fn arrives(&self, receiver: Receiver, say: Say, parcel: &SessionParcel) -> SessionMove
         requires room { self.now.events < 2 ^ 31 }
         requires numbered { 1 ≤ parcel.now.seq }
         ensures { result ≡ moves.arrives self.now receiver say parcel.now (arrival receiver.end parcel.now.seq parcel.now.attempt) }
@@ -112,7 +112,7 @@ impl Session {
                 (outcome, answer_to(parcel, verdict))
             }
         };
-        Move {
+        SessionMove {
             outcome,
             sender: self.sender,
             receiver,
@@ -120,7 +120,7 @@ impl Session {
         }
     }
 
-    fn parcel_arrives(&self, say: Say, parcel: &SessionParcel) -> Move
+    fn parcel_arrives(&self, say: Say, parcel: &SessionParcel) -> SessionMove
         requires room { self.now.events < 2 ^ 31 }
         requires numbered { 1 ≤ parcel.now.seq }
         ensures { result ≡ moves.parcel_arrives self.now say parcel.now }
@@ -135,7 +135,7 @@ impl Session {
         }
     }
 
-    pub(crate) fn receiver_receives(&self, say: Say, packet: Option<SenderPacket>) -> Move
+    pub(crate) fn receiver_receives(&self, say: Say, packet: Option<SenderPacket>) -> SessionMove
         requires room { self.now.events < 2 ^ 31 }
         requires numbered { IfSome packet IsNumbered }
         ensures { result ≡ moves.receiver_receives self.now say packet }

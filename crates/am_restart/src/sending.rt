@@ -8,7 +8,7 @@ ghost use Rattle.std.specs.Prelude.{◌≡◌, ◌<◌, ◌^◌, IsNone, slice_g
 
 use crate::ends::Sender;
 use crate::events::SessionOutcome;
-use crate::moves::{Change, Move};
+use crate::moves::{Change, SessionMove};
 use crate::packets::{
     ReceiverPacket, SenderPacket, SessionAnswer, SessionParcel, answer_of, message_of,
 };
@@ -50,11 +50,11 @@ fn forgotten(bound: Option<Bound>) -> SessionOutcome
 }
 
 impl Session {
-    pub(crate) fn offer(&self) -> Move
+    pub(crate) fn offer(&self) -> SessionMove
         requires { self.now.events < 2 ^ 31 }
         ensures { result ≡ moves.move_of self.now Events.Offer }
     {
-        Move {
+        SessionMove {
             outcome: SessionOutcome::Offered(self.traffic.offered + 1),
             sender: self.sender,
             receiver: self.receiver,
@@ -62,11 +62,11 @@ impl Session {
         }
     }
 
-    pub(crate) fn hello(&self) -> Move
+    pub(crate) fn hello(&self) -> SessionMove
         requires { self.now.events < 2 ^ 31 }
         ensures { result ≡ moves.move_of self.now Events.Hello }
     {
-        Move {
+        SessionMove {
             outcome: SessionOutcome::Hello(self.next_of_sender()),
             sender: self.sender,
             receiver: self.receiver,
@@ -76,7 +76,7 @@ impl Session {
         }
     }
 
-    pub(crate) fn bind(&self) -> Move
+    pub(crate) fn bind(&self) -> SessionMove
         requires room { self.now.events < 2 ^ 31 }
         requires idle { IsNone self.now.sender.end.bound }
         ensures { result ≡ moves.bind_of self.now (slice_get self.now.traffic.queue 0) }
@@ -86,7 +86,7 @@ impl Session {
         };
         let mut sender = self.sender;
         let sent = sender.end.bind(message_of(message), Slot(0));
-        Move {
+        SessionMove {
             outcome: SessionOutcome::Sent {
                 message,
                 seq: sent.seq,
@@ -99,7 +99,7 @@ impl Session {
         }
     }
 
-    pub(crate) fn expire(&self) -> Move
+    pub(crate) fn expire(&self) -> SessionMove
         requires { self.now.events < 2 ^ 31 }
         ensures { result ≡ moves.expire_of self.now self.now.sender.end.bound }
     {
@@ -109,7 +109,7 @@ impl Session {
         let message = bound.message.serial.count;
         let mut sender = self.sender;
         match sender.end.time_out(self.tries) {
-            TimedOut::Resend(sent) => Move {
+            TimedOut::Resend(sent) => SessionMove {
                 outcome: SessionOutcome::Sent {
                     message,
                     seq: sent.seq,
@@ -120,7 +120,7 @@ impl Session {
                 receiver: self.receiver,
                 change: Change::Sends(parcel_from(&self.sender, sent.seq, sent.attempt, message)),
             },
-            TimedOut::GaveUp(_) => Move {
+            TimedOut::GaveUp(_) => SessionMove {
                 outcome: SessionOutcome::Unknown(message),
                 sender,
                 receiver: self.receiver,
@@ -129,11 +129,11 @@ impl Session {
         }
     }
 
-    pub(crate) fn sender_restarts(&self) -> Move
+    pub(crate) fn sender_restarts(&self) -> SessionMove
         requires { self.now.events < 2 ^ 31 }
         ensures { result ≡ moves.move_of self.now Events.SenderRestart }
     {
-        Move {
+        SessionMove {
             outcome: forgotten(self.sender.end.busy()),
             sender: Sender::new(self.sender.incarnation + 1, 0),
             receiver: self.receiver,
@@ -142,13 +142,13 @@ impl Session {
     }
 
     // A welcome from this incarnation of the receiver, which counts or doesn't.
-    fn welcomed(&self, receiver: u32, counts: bool) -> Move
+    fn welcomed(&self, receiver: u32, counts: bool) -> SessionMove
         ensures { result ≡ moves.welcomed self.now receiver counts }
     {
         if !counts {
             return self.still(SessionOutcome::Nothing);
         }
-        Move {
+        SessionMove {
             outcome: SessionOutcome::Peer {
                 incarnation: receiver,
                 unknown: number_of(self.sender.end.busy()),
@@ -160,7 +160,7 @@ impl Session {
     }
 
     // A verdict on the message that was bound until now.
-    fn settled_by(&self, sender: Sender, message: u32, verdict: Verdict) -> Move
+    fn settled_by(&self, sender: Sender, message: u32, verdict: Verdict) -> SessionMove
         ensures { result ≡ moves.settled_by self.now sender message verdict }
     {
         let (outcome, change) = match verdict {
@@ -171,7 +171,7 @@ impl Session {
                 (SessionOutcome::Returned(message), Change::Nothing)
             },
         };
-        Move {
+        SessionMove {
             outcome,
             sender,
             receiver: self.receiver,
@@ -180,7 +180,7 @@ impl Session {
     }
 
     // An answer, of both current incarnations or not.
-    fn answered(&self, answer: &SessionAnswer, current: bool) -> Move
+    fn answered(&self, answer: &SessionAnswer, current: bool) -> SessionMove
         ensures { result ≡ moves.answered self.now answer.now current }
     {
         if !current {
@@ -195,7 +195,7 @@ impl Session {
         }
     }
 
-    pub(crate) fn sender_receives(&self, packet: Option<ReceiverPacket>) -> Move
+    pub(crate) fn sender_receives(&self, packet: Option<ReceiverPacket>) -> SessionMove
         ensures { result ≡ moves.sender_receives self.now packet }
     {
         match packet {

@@ -10,7 +10,7 @@ ghost use Rattle.std.specs.Prelude.{◌≡◌, ◌≤◌, ◌<◌, ◌^◌, ◌�
 
 use crate::ends::{Receiver, Sender};
 use crate::events::{SessionCondition, SessionEntry, SessionEvent, SessionFault, SessionOutcome};
-use crate::moves::{Change, Move};
+use crate::moves::{Change, SessionMove};
 use crate::traffic::Traffic;
 use am_names::NoMemory;
 use std::alloc::Global;
@@ -131,10 +131,10 @@ impl Session {
         }
     }
 
-    pub(crate) fn still(&self, outcome: SessionOutcome) -> Move
+    pub(crate) fn still(&self, outcome: SessionOutcome) -> SessionMove
         ensures { result ≡ moves.still self.now outcome }
     {
-        Move {
+        SessionMove {
             outcome,
             sender: self.sender,
             receiver: self.receiver,
@@ -158,7 +158,7 @@ impl Session {
 
     // What an event does.
     #[tactic(auto, using(crate::proofs::Enabled::binds_idle, crate::proofs::Enabled::numbered_at))]
-    fn move_of(&self, event: &SessionEvent) -> Move
+    fn move_of(&self, event: &SessionEvent) -> SessionMove
         requires room { self.now.events < 2 ^ 31 }
         requires enabled { moves.failing self.now event.now ≡ None }
         ensures { result ≡ moves.move_of self.now event.now }
@@ -182,7 +182,7 @@ impl Session {
     }
 
     // Makes a move, or leaves all as it was where there is no memory.
-    fn make(&mut self, planned: &Move) -> Result<(), NoMemory>
+    fn make(&mut self, planned: &SessionMove) -> Result<(), NoMemory>
         requires room { self.old.events < 2 ^ 31 }
         requires bounded { IsBounded (state.moved planned.now self.old) }
         ensures ok { OnOk result (self.new ≡ state.moved planned.now self.old) }

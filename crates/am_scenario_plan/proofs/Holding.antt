@@ -7,7 +7,7 @@ use Rattle.std.proofs.lemmas.List.{take_more}
 use Rattle.am_names.specs.declared.NodeId.{NodeId}
 use Rattle.am_names.specs.declared.Packet.{Packet}
 use Rattle.am_scenario_plan.specs.declared.plan.PlanLine.{PlanLine}
-use Rattle.am_scenario_plan.specs.declared.shape_of.Held.{Held}
+use Rattle.am_scenario_plan.specs.declared.shape_of.LatePacket.{LatePacket}
 use Rattle.am_scenario_plan.specs.declared.plan.LinkFault.{LinkFault}
 use Rattle.am_scenario_plan.specs.declared.plan.LinkFault.TheVariants.{Lose, Repeat, Late}
 use Rattle.am_scenario_plan.specs.Shape.{late_from, stamped, stamp_of, is_late_until, at_once, released_by, fault_at, shape}
@@ -54,7 +54,7 @@ length-taken : (emitted : List Packet) (i : ℕ) → i < length emitted → leng
 length-taken emitted i below = length-take i emitted ∙ omega arith
 
 pub shape_more : (plan : List PlanLine) (from to : NodeId) (emitted : List Packet) (i number stamp : ℕ) (d : Packet) (fault : Option LinkFault)
-    (was mid new : List Packet) (held : List Held)
+    (was mid new : List Packet) (held : List LatePacket)
     → i < length emitted → number ≡ i + 1 → fault ≡ fault_at plan from to number → stamp ≡ stamp_of (get_or emitted i d)
     → was ≡ shape plan from to (take i emitted) → held ≡ all_held (fault_at plan from to) 1 (take i emitted)
     → mid ≡ was ++ at_once fault (get_or emitted i d) → new ≡ mid ++ flat_map (falls_due number stamp) held
@@ -73,7 +73,7 @@ shape_more plan from to emitted i number stamp d fault was mid new held below co
     let first : mid ≡ shape plan from to front ++ at_once (faults number) p =
     at_first ∙ (ap (λ (l : List Packet). l ++ at_once fault p) before ∙ ap (λ (f : Option LinkFault). shape plan from to front ++ at_once f p) at) in
     let last : flat_map (falls_due number stamp) held ≡ map (stamped (stamp_of p)) (late_from faults number 1 front) =
-    ap (λ (l : List Held). flat_map (falls_due number stamp) l) held_so ∙ (ap (λ (s : ℕ). flat_map (falls_due number s) (all_held faults 1 front)) stamped_by
+    ap (λ (l : List LatePacket). flat_map (falls_due number stamp) l) held_so ∙ (ap (λ (s : ℕ). flat_map (falls_due number s) (all_held faults 1 front)) stamped_by
     ∙ due) in
     then_due
     ∙ (ap (λ (l : List Packet). l ++ flat_map (falls_due number stamp) held) first
@@ -81,7 +81,7 @@ shape_more plan from to emitted i number stamp d fault was mid new held below co
     ∙ (append_assoc (shape plan from to front) (at_once (faults number) p) (map (stamped (stamp_of p)) (late_from faults number 1 front))
     ∙ (ap (λ (l : List Packet). shape plan from to front ++ l) (sym by_place) ∙ sym more))))
 
-pub held_more : (plan : List PlanLine) (from to : NodeId) (emitted : List Packet) (i number : ℕ) (d : Packet) (fault : Option LinkFault) (held new : List Held)
+pub held_more : (plan : List PlanLine) (from to : NodeId) (emitted : List Packet) (i number : ℕ) (d : Packet) (fault : Option LinkFault) (held new : List LatePacket)
     → i < length emitted → number ≡ i + 1 → fault ≡ fault_at plan from to number
     → held ≡ all_held (fault_at plan from to) 1 (take i emitted) → new ≡ held ++ held_back fault number (get_or emitted i d)
     → new ≡ all_held (fault_at plan from to) 1 (take (i + 1) emitted)
@@ -92,5 +92,5 @@ held_more plan from to emitted i number d fault held new below counted at before
     ap (λ (l : List Packet). all_held faults 1 l) (take_more emitted i d below)
     ∙ all_held-push faults 1 front (get_or emitted i d) number (omega (arith, length-taken emitted i below)) in
     then_held
-    ∙ (ap (λ (l : List Held). l ++ held_back fault number (get_or emitted i d)) before
+    ∙ (ap (λ (l : List LatePacket). l ++ held_back fault number (get_or emitted i d)) before
     ∙ (ap (λ (f : Option LinkFault). all_held faults 1 front ++ held_back f number (get_or emitted i d)) at ∙ sym more))

@@ -11,7 +11,7 @@ use std::alloc::Global;
 
 /// A packet that is released later.
 #[derive(Clone, Copy, Debug)]
-struct Held {
+struct LatePacket {
     /// The emission that releases it.
     due: u64,
     packet: Packet,
@@ -78,7 +78,12 @@ fn release(
     Ok(())
 }
 
-fn release_due(released: &mut Vec<Packet>, held: Held, now: u64, stamp: u64) -> Result<(), NoMemory>
+fn release_due(
+    released: &mut Vec<Packet>,
+    held: LatePacket,
+    now: u64,
+    stamp: u64,
+) -> Result<(), NoMemory>
     ensures { IfOk result (λ _. released.new.items ≡ released.old.items ++ falls_due now stamp held) }
 {
     if held.due == now {
@@ -90,7 +95,7 @@ fn release_due(released: &mut Vec<Packet>, held: Held, now: u64, stamp: u64) -> 
 // The packets that were held back until this emission.
 fn release_held(
     released: &mut Vec<Packet>,
-    held: &[Held],
+    held: &[LatePacket],
     now: u64,
     stamp: u64,
 ) -> Result<(), NoMemory>
@@ -103,7 +108,7 @@ fn release_held(
 }
 
 fn hold(
-    held: &mut Vec<Held>,
+    held: &mut Vec<LatePacket>,
     fault: Option<LinkFault>,
     place: u64,
     packet: Packet,
@@ -113,7 +118,7 @@ fn hold(
 {
     if let Some(LinkFault::Late(by)) = fault {
         let due = place + u64::from(by);
-        held.push(Held { due, packet })?;
+        held.push(LatePacket { due, packet })?;
     }
     Ok(())
 }

@@ -9,7 +9,7 @@ ghost use Rattle.am_segment_pieces.specs.Segments.{segment_bytes};
 use crate::expansion::Expanded;
 use crate::hex::put_byte;
 use am_office_entries::{Journal, NoMemory};
-use am_office_text::Piece::Text;
+use am_office_text::LinePiece::Text;
 use am_office_text::{count, put_end, put_line, small};
 use am_segment_pieces::{SegmentLine, TransferRan, segment_bytes, transfers_ran};
 use std::alloc::{AllocError, Global};

@@ -7,7 +7,7 @@ ghost use Rattle.am_segment.specs.Texts.{poll_line, request_line, serve_lines, t
 
 use crate::saying::{Sent, Served};
 use am_names::{EndpointId, Words};
-use am_office_text::Piece::{Number, Text};
+use am_office_text::LinePiece::{Number, Text};
 use am_office_text::{put_end, put_spaced, put_word, small};
 use std::alloc::AllocError;
 

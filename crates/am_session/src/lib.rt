@@ -18,6 +18,6 @@ pub use crate::output::{SessionOutput, session_has_one_answer, session_output};
 pub use crate::playing::{Played, play};
 pub use crate::reader::read_session;
 pub use crate::report::session_report;
-pub use crate::script::{ReadFault, SessionScript, SessionStep, SessionTextFault};
+pub use crate::script::{SessionReadFault, SessionScript, SessionStep, SessionTextFault};
 pub use crate::stops::Stop;
 pub use am_lexer::What;

@@ -11,7 +11,7 @@ use crate::playing::{Played, play};
 use crate::printing::condition_word;
 use crate::reader::read_session;
 use crate::report::session_report;
-use crate::script::{ReadFault, SessionScript, SessionTextFault};
+use crate::script::{SessionReadFault, SessionScript, SessionTextFault};
 use crate::stops::Stop;
 use am_lexer::What;
 use am_names::NoMemory;
@@ -108,8 +108,8 @@ pub fn session_output(alloc: Global, bytes: &[u8]) -> Result<SessionOutput, NoMe
 {
     match read_session(alloc, bytes) {
         Ok(script) => script_output(alloc, &script),
-        Err(ReadFault::Refused(fault)) => fault_output(alloc, fault),
-        Err(ReadFault::NoMemory) => Err(NoMemory),
+        Err(SessionReadFault::Refused(fault)) => fault_output(alloc, fault),
+        Err(SessionReadFault::NoMemory) => Err(NoMemory),
     }
 }
 

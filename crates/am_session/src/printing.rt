@@ -5,7 +5,7 @@ ghost use Rattle.am_office_text.specs.Pieces.{Extends};
 ghost use Rattle.am_office_text.specs.Words.{spaced};
 ghost use Rattle.std.specs.Prelude.{◌≡◌, ◌++◌, OnOk};
 
-use am_office_text::Piece::Text;
+use am_office_text::LinePiece::Text;
 use am_office_text::{count, put_end, put_spaced, put_word, small};
 use am_restart::{Say, SessionCondition, SessionEntry, SessionEvent, SessionFate, SessionOutcome};
 use std::alloc::AllocError;

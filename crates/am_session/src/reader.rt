@@ -10,7 +10,7 @@ ghost use Rattle.std.specs.Prelude.{◌≡◌, IfOk};
 use crate::draft::Draft;
 use crate::head::{Head, head_of};
 use crate::lines::words_say;
-use crate::script::{LineFault, ReadFault, SessionScript, SessionTextFault};
+use crate::script::{LineFault, SessionReadFault, SessionScript, SessionTextFault};
 use am_lexer::{What, is_text, next_line, next_word};
 use std::alloc::Global;
 
@@ -73,18 +73,18 @@ fn finish(draft: Draft) -> Result<SessionScript, What>
     }
 }
 
-fn refused(line: u32, fault: LineFault) -> ReadFault
+fn refused(line: u32, fault: LineFault) -> SessionReadFault
     ensures { result ≡ at_line line fault }
 {
     match fault {
-        LineFault::What(what) => ReadFault::Refused(SessionTextFault { line, what }),
-        LineFault::NoMemory => ReadFault::NoMemory,
+        LineFault::What(what) => SessionReadFault::Refused(SessionTextFault { line, what }),
+        LineFault::NoMemory => SessionReadFault::NoMemory,
     }
 }
 
 /// The session that the bytes spell, or the line and the cause of their first fault (`specs/Grammar.antt`). A line's number stands
 /// still at 2^32-1. Where there is no memory the answer is `NoMemory`.
-pub fn read_session(alloc: Global, bytes: &[u8]) -> Result<SessionScript, ReadFault>
+pub fn read_session(alloc: Global, bytes: &[u8]) -> Result<SessionScript, SessionReadFault>
     ensures exact { Answers result (grammar.grammar bytes.now) }
     ensures playable { IfOk result IsPlayable }
 {

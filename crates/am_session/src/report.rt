@@ -12,7 +12,7 @@ ghost use Rattle.std.specs.Prelude.{◌≡◌, ◌++◌, List, IfOk, OnOk};
 use crate::fates::{Known, known_in, known_of};
 use crate::printing::{fate_word, put_entry};
 use am_names::NoMemory;
-use am_office_text::Piece::{Number, Text};
+use am_office_text::LinePiece::{Number, Text};
 use am_office_text::put_line;
 use am_restart::{SessionEntry, SessionOutcome};
 use std::alloc::{AllocError, Global};

@@ -42,7 +42,7 @@ pub struct SessionTextFault {
 
 /// Why no session was read.
 #[derive(Clone, Copy, PartialEq, Eq, Debug, Error)]
-pub enum ReadFault {
+pub enum SessionReadFault {
     /// The text spells none.
     #[error("the text spells no session")]
     Refused(SessionTextFault),

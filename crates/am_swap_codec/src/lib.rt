@@ -6,5 +6,5 @@ mod messages;
 pub mod pieces;
 mod valid;
 
-pub use crate::pieces::ReadFault;
+pub use crate::pieces::ImageFault;
 pub use lists::BodyLists;

@@ -8,7 +8,7 @@ ghost use Rattle.am_swap_image.specs.Reading.{body_at, whole_body};
 ghost use Rattle.std.specs.Prelude.{◌≡◌, ◌++◌, IfOk, OnOk};
 
 use crate::pieces::{
-    ReadFault, all_in_range, head_in_range, put_counted, put_each, put_long, put_magic, put_short,
+    ImageFault, all_in_range, head_in_range, put_counted, put_each, put_long, put_magic, put_short,
     take_counted, take_long, take_magic, take_many, take_short,
 };
 use am_model::{Awaited, Mapping, Notice, Queued};
@@ -110,8 +110,8 @@ impl BodyLists {
         ensures { IfOk result (λ found. Decodes id pool bytes.now found) }
     {
         match take_whole(alloc, id, bytes) {
-            Err(ReadFault::NoMemory) => Err(NoMemory),
-            Err(ReadFault::NoBody) => Ok(None),
+            Err(ImageFault::NoMemory) => Err(NoMemory),
+            Err(ImageFault::NoBody) => Ok(None),
             Ok(lists) => {
                 if lists.is_valid(id, pool) {
                     Ok(Some(lists))
@@ -144,7 +144,7 @@ fn take_head(bytes: &[u8]) -> Option<(Head, &[u8])>
 }
 
 #[tactic(auto, unfolding(crate::specs::Parts::tables_at))]
-fn take_tables(alloc: Global, id: EndpointId, bytes: &[u8]) -> Result<(Tables, &[u8]), ReadFault>
+fn take_tables(alloc: Global, id: EndpointId, bytes: &[u8]) -> Result<(Tables, &[u8]), ImageFault>
     ensures { Finds (λ x. (((x.0.0.0.items, x.0.0.1.items), x.0.1.items), x.1.now)) result (tables_at id bytes.now) }
 {
     let (mapped, rest) = take_many(alloc, id, 16, bytes)?;
@@ -159,7 +159,7 @@ fn take_queues(
     alloc: Global,
     id: EndpointId,
     bytes: &[u8],
-) -> Result<((Vec<Queued>, Vec<Queued>), &[u8]), ReadFault>
+) -> Result<((Vec<Queued>, Vec<Queued>), &[u8]), ImageFault>
     ensures { Finds (λ x. ((x.0.0.items, x.0.1.items), x.1.now)) result (queues_at bytes.now) }
 {
     let (requests, rest) = take_counted(alloc, id, bytes)?;
@@ -173,7 +173,7 @@ fn take_arrivals(
     alloc: Global,
     id: EndpointId,
     bytes: &[u8],
-) -> Result<((Vec<Notice>, Vec<Message>), &[u8]), ReadFault>
+) -> Result<((Vec<Notice>, Vec<Message>), &[u8]), ImageFault>
     ensures { Finds (λ x. ((x.0.0.items, x.0.1.items), x.1.now)) result (arrivals_at bytes.now) }
 {
     let (notices, rest) = take_counted(alloc, id, bytes)?;
@@ -184,11 +184,11 @@ fn take_arrivals(
 /// The body at the front of some bytes, and the bytes behind it.
 // Part by part: an early exit with all lists alive would be proved for each list.
 #[tactic(auto, using(crate::proofs::InParts::body_by_parts))]
-fn take_body(alloc: Global, id: EndpointId, bytes: &[u8]) -> Result<(BodyLists, &[u8]), ReadFault>
+fn take_body(alloc: Global, id: EndpointId, bytes: &[u8]) -> Result<(BodyLists, &[u8]), ImageFault>
     ensures { Finds (λ x. (x.0, x.1.now)) result (body_at id bytes.now) }
 {
     let Some((((tag, sum), accepted), rest)) = take_head(bytes) else {
-        return Err(ReadFault::NoBody);
+        return Err(ImageFault::NoBody);
     };
     let (((mapped, awaited), handlers), rest) = take_tables(alloc, id, rest)?;
     let ((requests, replies), rest) = take_queues(alloc, id, rest)?;
@@ -210,13 +210,13 @@ fn take_body(alloc: Global, id: EndpointId, bytes: &[u8]) -> Result<(BodyLists, 
 
 /// The body that all of the bytes are the image of.
 #[tactic(auto, unfolding(am_swap_image::specs::Reading::whole_body))]
-fn take_whole(alloc: Global, id: EndpointId, bytes: &[u8]) -> Result<BodyLists, ReadFault>
+fn take_whole(alloc: Global, id: EndpointId, bytes: &[u8]) -> Result<BodyLists, ImageFault>
     ensures { Finds (λ x. x) result (whole_body id bytes.now) }
 {
     let (lists, rest) = take_body(alloc, id, bytes)?;
     if rest.is_empty() {
         Ok(lists)
     } else {
-        Err(ReadFault::NoBody)
+        Err(ImageFault::NoBody)
     }
 }

@@ -7,9 +7,9 @@ mod ranges;
 mod reading;
 mod writing;
 
-pub use fault::ReadFault;
+pub use fault::ImageFault;
 pub use many::{put_counted, put_each, take_counted, take_many};
-pub use part::Part;
+pub use part::ImagePart;
 pub use ranges::{all_in_range, head_in_range};
 pub use reading::{take_long, take_magic, take_short};
 pub use writing::{put_long, put_magic, put_short};

@@ -6,10 +6,10 @@ use Rattle.std.specs.List.{position, position_or_len}
 use Rattle.std.specs.Option.{option_map}
 use Rattle.am_names.specs.declared.EndpointId.{EndpointId}
 use Rattle.am_names.specs.Names.{same_end}
-use Rattle.am_swap_device.specs.Memory.{Held, is_for, held_for, holding, held_instead}
+use Rattle.am_swap_device.specs.Memory.{HeldImage, is_for, held_for, holding, held_instead}
 
 -- the place of the first that is for the key takes the bytes
-instead_set : (key : EndpointId) (bytes : List ℕ) (xs : List Held) → ltb (position_or_len (is_for key) xs) (length xs) ≡ true →
+instead_set : (key : EndpointId) (bytes : List ℕ) (xs : List HeldImage) → ltb (position_or_len (is_for key) xs) (length xs) ≡ true →
     held_instead key bytes xs ≡ slice_set xs (position_or_len (is_for key) xs) (holding key bytes)
 instead_set key bytes [] h = absurd cc
 instead_set key bytes (x ∷ xs) h = by_test (is_for key x) refl h (λ more. instead_set key bytes xs more)
@@ -25,9 +25,9 @@ instead_set key bytes (x ∷ xs) h = by_test (is_for key x) refl h (λ more. ins
         let e : 1 + p ≡ suc p = omega arith in
         let below : 1 + p < suc (length xs) = ltb-true (1 + p) (suc (length xs)) h in
         let less : p < length xs = omega arith in
-        ap (λ (ys : List Held). x ∷ ys) (more (lt-ltb p (length xs) less)) ∙ sym (ap (λ (n : ℕ). slice_set (x ∷ xs) n (holding key bytes)) e)
+        ap (λ (ys : List HeldImage). x ∷ ys) (more (lt-ltb p (length xs) less)) ∙ sym (ap (λ (n : ℕ). slice_set (x ∷ xs) n (holding key bytes)) e)
 
-instead_end : (key : EndpointId) (bytes : List ℕ) (xs : List Held) → length xs ≤ position_or_len (is_for key) xs →
+instead_end : (key : EndpointId) (bytes : List ℕ) (xs : List HeldImage) → length xs ≤ position_or_len (is_for key) xs →
     held_instead key bytes xs ≡ xs ++ holding key bytes ∷ []
 instead_end key bytes [] h = refl
 instead_end key bytes (x ∷ xs) h = by_test (is_for key x) refl h (λ more. instead_end key bytes xs more)
@@ -36,9 +36,9 @@ instead_end key bytes (x ∷ xs) h = by_test (is_for key x) refl h (λ more. ins
         (length xs ≤ position_or_len (is_for key) xs → held_instead key bytes xs ≡ xs ++ holding key bytes ∷ []) →
         cond b (holding key bytes ∷ xs) (x ∷ held_instead key bytes xs) ≡ x ∷ (xs ++ holding key bytes ∷ [])
     by_test true is h more = absurd (omega arith)
-    by_test false is h more = ap (λ (ys : List Held). x ∷ ys) (more (omega arith))
+    by_test false is h more = ap (λ (ys : List HeldImage). x ∷ ys) (more (omega arith))
 
-pub instead_at : (key : EndpointId) (bytes : List ℕ) (xs : List Held) (i : ℕ) → position (is_for key) xs ≡ Some i →
+pub instead_at : (key : EndpointId) (bytes : List ℕ) (xs : List HeldImage) (i : ℕ) → position (is_for key) xs ≡ Some i →
     held_instead key bytes xs ≡ slice_set xs i (holding key bytes)
 instead_at key bytes xs i e = at (ltb (position_or_len (is_for key) xs) (length xs)) refl e
   where
@@ -47,7 +47,7 @@ instead_at key bytes xs i e = at (ltb (position_or_len (is_for key) xs) (length 
     at true t h = let is : position_or_len (is_for key) xs ≡ i = cc in instead_set key bytes xs t ∙ ap (λ (n : ℕ). slice_set xs n (holding key bytes)) is
     at false t h = absurd cc
 
-pub instead_none : (key : EndpointId) (bytes : List ℕ) (xs : List Held) → position (is_for key) xs ≡ None →
+pub instead_none : (key : EndpointId) (bytes : List ℕ) (xs : List HeldImage) → position (is_for key) xs ≡ None →
     held_instead key bytes xs ≡ xs ++ holding key bytes ∷ []
 instead_none key bytes xs e = at (ltb (position_or_len (is_for key) xs) (length xs)) refl e
   where
@@ -57,17 +57,17 @@ instead_none key bytes xs e = at (ltb (position_or_len (is_for key) xs) (length 
     at false t h = instead_end key bytes xs (ltb-false _ _ t)
 
 -- for the key the bytes are held, and for every other key what was
-pub holds_instead : (key : EndpointId) (bytes : List ℕ) (xs : List Held) (other : EndpointId) →
+pub holds_instead : (key : EndpointId) (bytes : List ℕ) (xs : List HeldImage) (other : EndpointId) →
     held_for (held_instead key bytes xs) other ≡ (if same_end other key then Some bytes else held_for xs other)
 holds_instead key bytes [] other = empty (same_end other key)
   where
-    empty : (b : Bool) → option_map (λ (h : Held). h.bytes) (cond b (Some (holding key bytes)) None) ≡ cond b (Some bytes) None
+    empty : (b : Bool) → option_map (λ (h : HeldImage). h.bytes) (cond b (Some (holding key bytes)) None) ≡ cond b (Some bytes) None
     empty true = refl
     empty false = refl
 holds_instead key bytes (x ∷ xs) other = by_test (is_for key x) refl (same_end other key) refl (is_for other x) refl (holds_instead key bytes xs other)
   where
-    of : Option Held → Option (List ℕ)
-    of o = option_map (λ (h : Held). h.bytes) o
+    of : Option HeldImage → Option (List ℕ)
+    of o = option_map (λ (h : HeldImage). h.bytes) o
 
     apart : (a b c : ℕ) → (a == c) ≡ true → (b == a) ≡ false → (b == c) ≡ true → false ≡ true
     apart a b c ac ba bc =

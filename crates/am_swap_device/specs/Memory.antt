@@ -8,30 +8,30 @@ use Rattle.am_swap_device.specs.declared.swap.SwapFault.TheVariants as faults
 use Rattle.am_swap_device.specs.Causes.{Device, one_more, fails_after}
 
 -- the bytes that are held for a key
-pub record Held : Type 0 where
+pub record HeldImage : Type 0 where
   pub key : EndpointId
   pub bytes : List ℕ
 
 -- a swap in memory: what it holds, the numbers of the calls that fail, and how many calls and faults there were
 pub record Store : Type 0 where
-  pub held : List Held
+  pub held : List HeldImage
   pub fails : List ℕ
   pub calls : ℕ
   pub faults : ℕ
 
 -- whether this is held for the key
-abbrev pub is_for : EndpointId → Held → Bool
+abbrev pub is_for : EndpointId → HeldImage → Bool
 is_for key h = same_end key h.key
 
 -- the bytes that are held for a key, where it was written
-abbrev pub held_for : List Held → EndpointId → Option (List ℕ)
-held_for held key = option_map (λ (h : Held). h.bytes) (find (is_for key) held)
+abbrev pub held_for : List HeldImage → EndpointId → Option (List ℕ)
+held_for held key = option_map (λ (h : HeldImage). h.bytes) (find (is_for key) held)
 
-abbrev pub holding : EndpointId → List ℕ → Held
+abbrev pub holding : EndpointId → List ℕ → HeldImage
 holding key bytes = record { key = key; bytes = bytes }
 
 -- with these bytes in the place of what is held for the key, or after all else
-abbrev pub held_instead : EndpointId → List ℕ → List Held → List Held
+abbrev pub held_instead : EndpointId → List ℕ → List HeldImage → List HeldImage
 held_instead key bytes [] = holding key bytes ∷ []
 held_instead key bytes (h ∷ more) = if is_for key h then holding key bytes ∷ more else h ∷ held_instead key bytes more
 

@@ -1,5 +1,5 @@
 // What a swap in memory keeps for each key.
-ghost use Rattle.am_swap_device.specs.Memory.{Held, held_for, held_instead, is_for};
+ghost use Rattle.am_swap_device.specs.Memory.{HeldImage, held_for, held_instead, is_for};
 ghost use Rattle.std.specs.Prelude.{◌≡◌, [], ◌∷◌, ◌++◌, find, if◌then◌else◌, is_ok, position};
 ghost use Rattle.std.specs.Option.{option_copied};
 
@@ -15,9 +15,9 @@ pub(crate) struct Kept {
 }
 
 impl Model for Kept {
-    ghost use Rattle.am_swap_device.specs.Memory.{Held};
+    ghost use Rattle.am_swap_device.specs.Memory.{HeldImage};
 
-    ghost Value = { Held };
+    ghost Value = { HeldImage };
 
     ghost use Rattle.am_swap_device.specs.Inside.{held_in};
 

@@ -2,7 +2,7 @@
 use Rattle.std.proofs.Common.{◌≡◌, ℕ, ◌+◌, List, [], ◌∷◌, ◌++◌, length, sym, ◌∙◌, ap, append_assoc, append-nil}
 use Rattle.std.specs.Prelude.{Option, map}
 use Rattle.am_scenario_plan.specs.declared.plan.LinkFault.{LinkFault}
-use Rattle.am_wire_release.specs.declared.stage.Held.{Held}
+use Rattle.am_wire_release.specs.declared.stage.LateItem.{LateItem}
 use Rattle.am_wire_release.specs.Stages.{freed, held_after, held_then}
 use Rattle.am_wire_release.proofs.Releasing.{held_more}
 use Rattle.am_wire_relay.specs.Shapes.{released_by, shape, shape_after}
@@ -25,7 +25,7 @@ module _ {X : Type 0} (stamp_of : X → ℕ) (restamped : ℕ → X → X) (faul
   one_more sent x = shape_after-append [] sent (x ∷ []) ∙ ap (λ (r : List X). shape stamp_of restamped faults sent ++ r)
       (append-nil (released_by stamp_of restamped faults sent x))
 
-  module _ (sent : List X) (x : X) (place : ℕ) (fault : Option LinkFault) (at : place ≡ length sent + 1) (is : fault ≡ faults place) (held : List (Held X))
+  module _ (sent : List X) (x : X) (place : ℕ) (fault : Option LinkFault) (at : place ≡ length sent + 1) (is : fault ≡ faults place) (held : List (LateItem X))
       (kept : held ≡ held_after faults sent) where
     here : fault ≡ faults (length sent + 1)
     here = is ∙ ap faults at
@@ -34,5 +34,5 @@ module _ {X : Type 0} (stamp_of : X → ℕ) (restamped : ℕ → X → X) (faul
         new ≡ shape stamp_of restamped faults (sent ++ x ∷ [])
     shape_more old new shaped fed = fed ∙ (λ i. shaped i ++ map (restamped (stamp_of x)) (freed (at i) (here i) x (kept i))) ∙ sym (one_more sent x)
 
-    pub held_on : (new : List (Held X)) → new ≡ held_then place fault x held → new ≡ held_after faults (sent ++ x ∷ [])
+    pub held_on : (new : List (LateItem X)) → new ≡ held_then place fault x held → new ≡ held_after faults (sent ++ x ∷ [])
     held_on new e = e ∙ (λ i. held_then (at i) (here i) x (kept i)) ∙ held_more faults sent x

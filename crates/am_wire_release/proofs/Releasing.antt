@@ -10,7 +10,7 @@ use Rattle.am_names.specs.declared.Packet.TheVariants as Packets
 use Rattle.am_scenario_plan.specs.declared.plan.LinkFault.{LinkFault}
 use Rattle.am_scenario_plan.specs.declared.plan.LinkFault.TheVariants.{Lose, Repeat, Late}
 use Rattle.am_scenario_plan.specs.Shape.{at_once, is_late_until, late_from, number_of, stamp_of, stamped}
-use Rattle.am_wire_release.specs.declared.stage.Held.{Held}
+use Rattle.am_wire_release.specs.declared.stage.LateItem.{LateItem}
 use Rattle.am_wire_release.specs.Laws.{HoldsOn, NumbersLeave, PacketsLeave}
 use Rattle.am_wire_release.specs.Stages.{all_held, copies, falls_due, freed, held_after, held_back, is_later}
 
@@ -19,7 +19,7 @@ map_same [] = refl
 map_same (x ∷ xs) = ap (λ l. x ∷ l) (map_same xs)
 
 module _ {X : Type 0} where
-  due-append : (place : ℕ) (xs ys : List (Held X)) → flat_map (falls_due place) (xs ++ ys) ≡ flat_map (falls_due place) xs ++ flat_map (falls_due place) ys
+  due-append : (place : ℕ) (xs ys : List (LateItem X)) → flat_map (falls_due place) (xs ++ ys) ≡ flat_map (falls_due place) xs ++ flat_map (falls_due place) ys
   due-append place [] ys = refl
   due-append place (x ∷ xs) ys =
       ap (λ (l : List X). falls_due place x ++ l) (due-append place xs ys)
@@ -29,14 +29,14 @@ module _ {X : Type 0} where
       → all_held faults place (xs ++ x ∷ []) ≡ all_held faults place xs ++ held_back (faults n) n x
   all_held-push faults place [] x n e = append-nil (held_back (faults place) place x) ∙ ap (λ (k : ℕ). held_back (faults k) k x) (omega arith)
   all_held-push faults place (y ∷ xs) x n e =
-      ap (λ (l : List (Held X)). held_back (faults place) place y ++ l) (all_held-push faults (place + 1) xs x n (omega arith))
+      ap (λ (l : List (LateItem X)). held_back (faults place) place y ++ l) (all_held-push faults (place + 1) xs x n (omega arith))
       ∙ sym (append_assoc (held_back (faults place) place y) (all_held faults (place + 1) xs) (held_back (faults n) n x))
 
   -- what one place finds later, an earlier one does
-  later_before : (n : ℕ) (h : Held X) → is_later (n + 1) h ≡ true → is_later n h ≡ true
+  later_before : (n : ℕ) (h : LateItem X) → is_later (n + 1) h ≡ true → is_later n h ≡ true
   later_before n h is = let lt = ltb-true (n + 1) h.due is in lt-ltb n h.due (omega (arith, lt))
 
-  later_twice : (n : ℕ) (hs : List (Held X)) → filter (is_later (n + 1)) (filter (is_later n) hs) ≡ filter (is_later (n + 1)) hs
+  later_twice : (n : ℕ) (hs : List (LateItem X)) → filter (is_later (n + 1)) (filter (is_later n) hs) ≡ filter (is_later (n + 1)) hs
   later_twice n [] = refl
   later_twice n (h ∷ hs) = by_tests (is_later n h) (is_later (n + 1) h) refl refl (later_twice n hs)
     where
@@ -45,14 +45,14 @@ module _ {X : Type 0} where
           (if b then h ∷ filter (is_later (n + 1)) hs else filter (is_later (n + 1)) hs)
       by_tests true true a b more =
           ap (λ (t : Bool). if t then h ∷ filter (is_later (n + 1)) (filter (is_later n) hs) else filter (is_later (n + 1)) (filter (is_later n) hs)) b
-          ∙ ap (λ (l : List (Held X)). h ∷ l) more
+          ∙ ap (λ (l : List (LateItem X)). h ∷ l) more
       by_tests true false a b more =
           ap (λ (t : Bool). if t then h ∷ filter (is_later (n + 1)) (filter (is_later n) hs) else filter (is_later (n + 1)) (filter (is_later n) hs)) b ∙ more
       by_tests false true a b more = absurd (let both : true ≡ false = sym (later_before n h b) ∙ a in cc)
       by_tests false false a b more = more
 
   -- what was released before does not fall due again
-  none_due : (n : ℕ) (h : Held X) → is_later n h ≡ false → falls_due (n + 1) h ≡ []
+  none_due : (n : ℕ) (h : LateItem X) → is_later n h ≡ false → falls_due (n + 1) h ≡ []
   none_due n h early = by_test (h.due == n + 1) refl
     where
       by_test : (b : Bool) → (h.due == n + 1) ≡ b → (if b then h.item ∷ [] else []) ≡ []
@@ -61,7 +61,7 @@ module _ {X : Type 0} where
           absurd (let both : true ≡ false = sym (lt-ltb n h.due (omega (arith, due))) ∙ early in cc)
       by_test false is = refl
 
-  due_later : (n : ℕ) (hs : List (Held X)) → flat_map (falls_due (n + 1)) (filter (is_later n) hs) ≡ flat_map (falls_due (n + 1)) hs
+  due_later : (n : ℕ) (hs : List (LateItem X)) → flat_map (falls_due (n + 1)) (filter (is_later n) hs) ≡ flat_map (falls_due (n + 1)) hs
   due_later n [] = refl
   due_later n (h ∷ hs) = by_test (is_later n h) refl (due_later n hs)
     where
@@ -76,12 +76,12 @@ module _ {X : Type 0} where
   pub held_more : HoldsOn X
   held_more faults xs x =
       filter-append (is_later (length xs + 1)) (filter (is_later (length xs)) (all_held faults 1 xs)) held
-      ∙ (ap (λ (l : List (Held X)). l ++ filter (is_later (length xs + 1)) held) (later_twice (length xs) (all_held faults 1 xs))
+      ∙ (ap (λ (l : List (LateItem X)). l ++ filter (is_later (length xs + 1)) held) (later_twice (length xs) (all_held faults 1 xs))
       ∙ (sym (filter-append (is_later (length xs + 1)) (all_held faults 1 xs) held)
       ∙ (ap (filter (is_later (length xs + 1))) (sym (all_held-push faults 1 xs x (length xs + 1) (omega arith)))
       ∙ ap (λ (n : ℕ). filter (is_later n) (all_held faults 1 (xs ++ x ∷ []))) (sym (length_push xs x)))))
     where
-      held : List (Held X)
+      held : List (LateItem X)
       held = held_back (faults (length xs + 1)) (length xs + 1) x
 
 -- ---- items that stand for packets

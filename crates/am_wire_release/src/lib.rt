@@ -8,4 +8,4 @@ mod stage;
 
 pub use faults::LinkFaults;
 pub use laws::stages_release_the_shape;
-pub use stage::{Held, Stage};
+pub use stage::{LateItem, Stage};

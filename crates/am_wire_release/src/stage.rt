@@ -15,7 +15,7 @@ use std::marker::Model;
 /// let last = stage.held().iter().map(|held| held.due).max();
 /// ```
 #[derive(Clone, Copy)]
-pub struct Held<T> {
+pub struct LateItem<T> {
     /// The place of the emission that releases it.
     pub due: u64,
     /// What is released then.
@@ -34,7 +34,7 @@ pub struct Held<T> {
 #[derive(Drop)]
 pub struct Stage<T: Copy> {
     released: Vec<T>,
-    held: Vec<Held<T>>,
+    held: Vec<LateItem<T>>,
 }
 
 impl<T: Copy> Model for Stage<T> {
@@ -68,7 +68,7 @@ fn release<T: Copy>(released: &mut Vec<T>, fault: Option<LinkFault>, item: T)
     }
 }
 
-fn release_due<T: Copy>(released: &mut Vec<T>, held: Held<T>, place: u64)
+fn release_due<T: Copy>(released: &mut Vec<T>, held: LateItem<T>, place: u64)
     requires { vec_len released.old + 1 ≤ vec_capacity released.old }
     ensures items { released.new.items ≡ released.old.items ++ falls_due place held }
     ensures len { vec_len released.new ≤ vec_len released.old + 1 }
@@ -80,7 +80,7 @@ fn release_due<T: Copy>(released: &mut Vec<T>, held: Held<T>, place: u64)
 }
 
 /// The items that were held back until this emission.
-fn release_held<T: Copy>(released: &mut Vec<T>, held: &[Held<T>], place: u64)
+fn release_held<T: Copy>(released: &mut Vec<T>, held: &[LateItem<T>], place: u64)
     requires { vec_len released.old + length held.now ≤ vec_capacity released.old }
     ensures items { released.new.items ≡ released.old.items ++ flat_map (falls_due place) held.now }
     ensures len { vec_len released.new ≤ vec_len released.old + length held.now }
@@ -92,7 +92,7 @@ fn release_held<T: Copy>(released: &mut Vec<T>, held: &[Held<T>], place: u64)
 }
 
 /// Holds an item back, where the plan has it late.
-fn hold<T: Copy>(held: &mut Vec<Held<T>>, fault: Option<LinkFault>, place: u64, item: T)
+fn hold<T: Copy>(held: &mut Vec<LateItem<T>>, fault: Option<LinkFault>, place: u64, item: T)
     requires room { vec_len held.old < vec_capacity held.old }
     requires place { place < 2 ^ 63 }
     ensures items { held.new.items ≡ held.old.items ++ held_back fault place item }
@@ -100,12 +100,12 @@ fn hold<T: Copy>(held: &mut Vec<Held<T>>, fault: Option<LinkFault>, place: u64, 
 {
     if let Some(LinkFault::Late(by)) = fault {
         let due = place + u64::from(by);
-        held.push_reserved(Held { due, item });
+        held.push_reserved(LateItem { due, item });
     }
 }
 
 /// Keeps the items that this emission was too early for.
-fn keep_later<T: Copy>(held: &mut Vec<Held<T>>, place: u64)
+fn keep_later<T: Copy>(held: &mut Vec<LateItem<T>>, place: u64)
     ensures items { held.new.items ≡ filter (is_later place) held.old.items }
     ensures capacity { vec_capacity held.new ≡ vec_capacity held.old }
 {
@@ -192,7 +192,7 @@ impl<T: Copy> Stage<T> {
     /// ```
     /// let is_empty = stage.held().is_empty();
     /// ```
-    pub fn held(&self) -> &[Held<T>]
+    pub fn held(&self) -> &[LateItem<T>]
         ensures { result.now ≡ self.now.held }
     {
         self.held.as_slice()

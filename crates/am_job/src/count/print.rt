@@ -5,7 +5,7 @@ ghost use Rattle.std.specs.List.{flat_map};
 ghost use Rattle.am_job.specs.Count.Printed.{count_text, left_total, word_line};
 
 use crate::words::WordCount;
-use am_office_text::Piece::{Number, Text};
+use am_office_text::LinePiece::{Number, Text};
 use am_office_text::{count, put_end, put_line, put_spaced, put_word, small};
 use std::alloc::{AllocError, Global};
 

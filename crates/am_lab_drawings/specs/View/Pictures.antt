@@ -13,7 +13,7 @@ use Rattle.am_lab_picture.specs.Rows.{rows}
 use Rattle.am_lab_picture.specs.declared.data.Lines.{Lines}
 use Rattle.am_lab_drawings.specs.View.Parts.{lines_of}
 use Rattle.am_lab_drawings.specs.View.Standings.{lanes}
-use Rattle.am_lab_drawings.specs.declared.view.parts.Part.{Part}
+use Rattle.am_lab_drawings.specs.declared.view.parts.LineRange.{LineRange}
 use Rattle.am_lab_drawings.specs.declared.view.parts.PictureFault.{PictureFault}
 
 -- the picture of some lines of a journal
@@ -35,7 +35,7 @@ picture_by s journal (Ok lines) = Ok (picture_of s journal lines)
 picture_by s journal (Err fault) = Err fault
 
 -- What is shown of a report of a scenario: the picture of the lines that the part names, or why there is none.
-pub record ShowsOf (form : Form) (s : ScenarioLists) (bytes : List ℕ) (part : Option Part) (answer : Result PictureLists PictureFault) : Type 0 where
+pub record ShowsOf (form : Form) (s : ScenarioLists) (bytes : List ℕ) (part : Option LineRange) (answer : Result PictureLists PictureFault) : Type 0 where
   pub journal : List Entry
   pub begun : IsBegun form s journal
   pub ended : IsEnded form s journal
@@ -43,7 +43,7 @@ pub record ShowsOf (form : Form) (s : ScenarioLists) (bytes : List ℕ) (part : 
   pub answer' : answer ≡ picture_by s journal (lines_of (length journal) part)
 
 -- What is shown of the report in a text: the report is that of a journal that follows the scenario in front of it.
-pub record Shows (form : Form) (text : List ℕ) (part : Option Part) (answer : Result PictureLists PictureFault) : Type 0 where
+pub record Shows (form : Form) (text : List ℕ) (part : Option LineRange) (answer : Result PictureLists PictureFault) : Type 0 where
   pub place : ℕ
   pub place' : place_of text ≡ Some place
   pub scenario : ScenarioLists

@@ -8,7 +8,7 @@ use thiserror::Error;
 
 /// A part of a report's journal: the lines from one to another, both shown.
 #[derive(Clone, Copy, PartialEq, Eq, Debug)]
-pub struct Part {
+pub struct LineRange {
     pub from: u32,
     pub to: u32,
 }
@@ -30,7 +30,7 @@ pub enum PictureFault {
 /// How many rows a picture has at most.
 pub const MOST_ROWS: u32 = 20_000;
 
-fn is_within(part: Part, count: u32) -> bool
+fn is_within(part: LineRange, count: u32) -> bool
     requires { count + 3 < 2 ^ 32 }
     ensures { result ≡ parts.is_within count part }
 {
@@ -48,7 +48,7 @@ fn few(lines: Lines) -> Result<Lines, PictureFault>
 }
 
 /// The lines that a part names of a journal with so many entries, or all of its lines.
-pub(crate) fn lines_of(part: Option<Part>, count: u32) -> Result<Lines, PictureFault>
+pub(crate) fn lines_of(part: Option<LineRange>, count: u32) -> Result<Lines, PictureFault>
     requires { count + 3 < 2 ^ 32 }
     ensures { result ≡ parts.lines_of count part }
 {

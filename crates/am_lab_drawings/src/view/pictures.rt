@@ -13,7 +13,7 @@ ghost use Rattle.am_model_scripts.specs.Layout.{layout_of};
 ghost use Rattle.std.specs.Prelude.{◌≡◌, ◌⊎◌, ◌+◌, ◌≤◌, ◌<◌, ◌^◌, [], Err, IfOk, length};
 
 use crate::view::lanes::lanes;
-use crate::view::parts::{Part, PictureFault, lines_of};
+use crate::view::parts::{LineRange, PictureFault, lines_of};
 use am_lab_picture::{Arrow, Cross, IndexedJournal, Lines, Picture, Row, arrows, crosses, rows};
 use am_lab_reasons::journal::reach_end;
 use am_machine::Cluster;
@@ -82,7 +82,7 @@ fn picture_part(
     alloc: Global,
     scenario: &Scenario,
     journal: Journal,
-    part: Option<Part>,
+    part: Option<LineRange>,
 ) -> Result<Picture, PictureFault>
     requires lawful { IsLawful scenario.now }
     requires again { EachAfter (IsMadeAgain (layout_of scenario.now)) [] journal }
@@ -101,7 +101,7 @@ pub(crate) fn picture_in(
     alloc: Global,
     scenario: &Scenario,
     bytes: &[u8],
-    part: Option<Part>,
+    part: Option<LineRange>,
 ) -> Result<Picture, PictureFault>
     requires few { length bytes.now < 2 ^ 31 }
     requires lawful { IsLawful scenario.now }

@@ -10,8 +10,8 @@ use am_iface::emitted_of;
 use am_lab_picture::{Named, Row};
 use am_names::{NoMemory, Packet, Way};
 use am_office_entries::Fate;
-use am_office_text::Piece::{Number, Text};
-use am_office_text::{Piece, count, put_word, small};
+use am_office_text::LinePiece::{Number, Text};
+use am_office_text::{LinePiece, count, put_word, small};
 use std::alloc::{AllocError, Global};
 
 #[tactic(auto, using(std::proofs::Common::append_assoc), unfolding(crate::specs::Json::Objects::place_part))]
@@ -33,7 +33,7 @@ fn put_serial(out: &mut Vec<u8>, named: Option<Named>) -> Result<(), AllocError>
         return put_word(out, Text("null"));
     };
     put_word(out, Text("\""))?;
-    put_word(out, Piece::Serial(named.serial))?;
+    put_word(out, LinePiece::Serial(named.serial))?;
     put_word(out, Text("\""))
 }
 

@@ -9,7 +9,7 @@ ghost use Rattle.std.specs.Prelude.{◌≡◌, ◌-◌, ◌<◌, ◌++◌, IfOk,
 
 use am_names::NoMemory;
 use am_office_entries::{Actor, Entry, Event, Outcome};
-use am_office_text::Piece::Text;
+use am_office_text::LinePiece::Text;
 use am_office_text::entry_lines::entry_line;
 use am_office_text::{put_bytes, put_numbered, put_word};
 use std::alloc::{AllocError, Global};

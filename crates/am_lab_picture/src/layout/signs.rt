@@ -6,7 +6,7 @@ ghost use Rattle.am_office_text.specs.Pieces.{word_of};
 
 use am_names::{EndpointId, Message, NodeId};
 use am_office_entries::{Call, Event, Outcome, Received, Refusal};
-use am_office_text::{Piece, cause_word, small, why_word};
+use am_office_text::{LinePiece, cause_word, small, why_word};
 
 /// Where a sign stands.
 #[derive(Clone, Copy)]
@@ -208,22 +208,22 @@ pub fn sign_of(event: Event, outcome: Outcome) -> &'static str
     }
 }
 
-fn handler_text(handler: Option<u8>) -> Piece
+fn handler_text(handler: Option<u8>) -> LinePiece
     ensures { word_of result ≡ signs.handler_text handler }
 {
     match handler {
-        None => Piece::Text("-"),
+        None => LinePiece::Text("-"),
         Some(handler) => small(handler),
     }
 }
 
 /// What is written in the sign of an outcome.
-pub fn inner_of(outcome: Outcome) -> Option<Piece>
+pub fn inner_of(outcome: Outcome) -> Option<LinePiece>
     ensures { option_map word_of result ≡ signs.inner_of outcome }
 {
     match outcome {
         Outcome::Ran { handler, .. } => Some(handler_text(handler)),
-        Outcome::Zero { .. } => Some(Piece::Text("0")),
+        Outcome::Zero { .. } => Some(LinePiece::Text("0")),
         _ => None,
     }
 }
@@ -249,36 +249,36 @@ fn refusal_text(refusal: Refusal) -> &'static str
     }
 }
 
-fn reply_text(reply: Option<Message>) -> Option<Piece>
+fn reply_text(reply: Option<Message>) -> Option<LinePiece>
     ensures { option_map word_of result ≡ signs.reply_text reply }
 {
     match reply {
         None => None,
-        Some(reply) => Some(Piece::Serial(reply.serial)),
+        Some(reply) => Some(LinePiece::Serial(reply.serial)),
     }
 }
 
-fn received_label(received: Received) -> Option<Piece>
+fn received_label(received: Received) -> Option<LinePiece>
     ensures { option_map word_of result ≡ signs.received_label received }
 {
     match received {
-        Received::Refused { cause, .. } => Some(Piece::Text(cause_word(cause))),
+        Received::Refused { cause, .. } => Some(LinePiece::Text(cause_word(cause))),
         _ => None,
     }
 }
 
 /// What is written beside the sign of an outcome.
-pub fn label_of(outcome: Outcome) -> Option<Piece>
+pub fn label_of(outcome: Outcome) -> Option<LinePiece>
     ensures { option_map word_of result ≡ signs.label_of outcome }
 {
     match outcome {
-        Outcome::Requested(message) => Some(Piece::Serial(message.serial)),
+        Outcome::Requested(message) => Some(LinePiece::Serial(message.serial)),
         Outcome::Ran { sends, .. } => reply_text(sends),
-        Outcome::Refused(refusal) => Some(Piece::Text(refusal_text(refusal))),
-        Outcome::Zero { why, .. } => Some(Piece::Text(why_word(why))),
-        Outcome::Failed => Some(Piece::Text("failed")),
-        Outcome::Requeued { cause, .. } => Some(Piece::Text(cause_word(cause))),
-        Outcome::Returned { cause, .. } => Some(Piece::Text(cause_word(cause))),
+        Outcome::Refused(refusal) => Some(LinePiece::Text(refusal_text(refusal))),
+        Outcome::Zero { why, .. } => Some(LinePiece::Text(why_word(why))),
+        Outcome::Failed => Some(LinePiece::Text("failed")),
+        Outcome::Requeued { cause, .. } => Some(LinePiece::Text(cause_word(cause))),
+        Outcome::Returned { cause, .. } => Some(LinePiece::Text(cause_word(cause))),
         Outcome::Received { result, .. } => received_label(result),
         _ => None,
     }

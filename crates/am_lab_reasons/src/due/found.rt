@@ -11,7 +11,7 @@ use am_machine::Cluster;
 use am_model::Head;
 use am_names::{EndpointId, NoMemory, NodeId};
 use am_office_entries::{Condition, Event, Place};
-use am_office_text::Piece::{Number, Text};
+use am_office_text::LinePiece::{Number, Text};
 use am_office_text::{put_end, put_spaced, put_word, small};
 use am_scenario::{Network, Scenario};
 use std::alloc::AllocError;

@@ -6,7 +6,7 @@ ghost use Rattle.std.specs.Prelude.{◌≡◌, ◌++◌, OnOk, Some, option_map}
 
 use am_names::NoMemory;
 use am_office_entries::{Entry, Event, Outcome};
-use am_office_text::Piece::Text;
+use am_office_text::LinePiece::Text;
 use am_office_text::entry_lines::entry_line;
 use am_office_text::{put_end, put_word};
 use std::alloc::AllocError;

@@ -15,7 +15,7 @@ use crate::refusals::faults::{joined, reads_on};
 use crate::refusals::places::{first_word, place};
 use crate::refusals::words::put_stands;
 use am_names::NoMemory;
-use am_office_text::Piece::Text;
+use am_office_text::LinePiece::Text;
 use am_office_text::put_word;
 use am_scenario::{Form, ReadFault, ScenarioFault, What, read};
 use std::alloc::{AllocError, Global};

@@ -9,7 +9,7 @@ ghost use Rattle.std.specs.Prelude.{◌≡◌, ◌++◌, IfOk, OnOk, codes, opti
 use crate::refusals::faults::{fault_in, joined, may_stand};
 use am_lexer::next_word;
 use am_names::NoMemory;
-use am_office_text::Piece::Text;
+use am_office_text::LinePiece::Text;
 use am_office_text::{put_end, put_word};
 use am_scenario::{Form, What};
 use std::alloc::{AllocError, Global};

@@ -12,7 +12,7 @@ use am_job::words::{CodedWord, split};
 use am_job::{round, round_count};
 use am_main_lines::Output;
 use am_names::NoMemory;
-use am_office_text::Piece::{Number, Text};
+use am_office_text::LinePiece::{Number, Text};
 use am_office_text::put_line;
 use std::alloc::{AllocError, Global};
 

@@ -6,7 +6,7 @@ ghost use Rattle.am_lab_scenarios.specs.Spelling.Texts as text;
 
 use am_names::{EndpointId, NoMemory};
 use am_office_entries::{Actor, Entry, Event, Outcome};
-use am_office_text::Piece::{Number, Tag, Text};
+use am_office_text::LinePiece::{Number, Tag, Text};
 use am_office_text::entry_lines::{entry_line, mask_word};
 use am_office_text::{count, put_end, put_line, put_spaced, put_word, small};
 use am_scenario_types::{

@@ -15,7 +15,7 @@ use crate::spelling::lines::{
     put_step_line, put_swap_fault_line, put_thread_line,
 };
 use am_names::NoMemory;
-use am_office_text::Piece::Text;
+use am_office_text::LinePiece::Text;
 use am_office_text::put_line;
 use am_scenario_types::{
     Bundle, EndLine, FaultLine, PlanLine, Scenario, ScriptCall, StepLine, ThreadLine,

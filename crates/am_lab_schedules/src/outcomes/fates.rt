@@ -8,8 +8,8 @@ ghost use Rattle.am_office_report.specs.declared.messages.MessageFate.{MessageFa
 use crate::distinct::DistinctTexts;
 use am_names::NoMemory;
 use am_office_report::{MessageFate, put_fate};
-use am_office_text::Piece::Text;
-use am_office_text::{Piece, kind_word, put_spaced, put_word};
+use am_office_text::LinePiece::Text;
+use am_office_text::{LinePiece, kind_word, put_spaced, put_word};
 use std::alloc::{AllocError, Global};
 
 /// The messages of the first run with their fates, and the texts of these.
@@ -25,7 +25,10 @@ fn put_told_fate(out: &mut Vec<u8>, message: &MessageFate) -> Result<(), AllocEr
     ensures { OnOk result (out.new.items ≡ out.old.items ++ outcomes.told_fate message.now) }
 {
     let kind = Text(kind_word(message.kind));
-    put_spaced(out, &[Text("fate"), Piece::Serial(message.serial), kind])?;
+    put_spaced(
+        out,
+        &[Text("fate"), LinePiece::Serial(message.serial), kind],
+    )?;
     put_fate(out, message.fate)
 }
 
@@ -39,7 +42,7 @@ fn put_missed_fate(out: &mut Vec<u8>, message: &MessageFate) -> Result<(), Alloc
         out,
         &[
             Text("fate"),
-            Piece::Serial(message.serial),
+            LinePiece::Serial(message.serial),
             kind,
             Text("not-accepted"),
         ],
@@ -60,7 +63,7 @@ fn name_of(alloc: Global, message: &MessageFate) -> Result<Vec<u8>, AllocError>
     ensures { IfOk result (λ text. text.items ≡ outcomes.name_of message.now) }
 {
     let mut text = Vec::new(alloc);
-    put_word(&mut text, Piece::Serial(message.serial))?;
+    put_word(&mut text, LinePiece::Serial(message.serial))?;
     Ok(text)
 }
 

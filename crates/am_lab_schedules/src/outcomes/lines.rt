@@ -9,7 +9,7 @@ use am_main_lines::full_line;
 use am_names::NoMemory;
 use am_office_entries::{Journal, Part};
 use am_office_report::{MessageFate, fates, put_total_words};
-use am_office_text::Piece::{Number, Text};
+use am_office_text::LinePiece::{Number, Text};
 use am_office_text::{put_end, put_line, put_spaced, put_word};
 use std::alloc::{AllocError, Global};
 

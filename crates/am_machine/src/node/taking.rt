@@ -11,18 +11,18 @@ use std::alloc::Global;
 
 /// The endpoints of several nodes, those of each from the last to the first, and their interfaces and disks.
 #[derive(Drop)]
-pub struct Taken {
+pub struct TakenParts {
     pub ends: Vec<Vec<Endpoint>>,
     pub interfaces: Vec<Interface>,
     pub swaps: Vec<MemorySwap>,
 }
 
 /// Room for what so many nodes have.
-pub fn room_for(alloc: Global, nodes: usize) -> Result<Taken, NoMemory>
+pub fn room_for(alloc: Global, nodes: usize) -> Result<TakenParts, NoMemory>
     ensures none { IfOk result IsEmpty }
     ensures room { IfOk result (HasRoomFor nodes) }
 {
-    Ok(Taken {
+    Ok(TakenParts {
         ends: Vec::with_capacity(alloc, nodes)?,
         interfaces: Vec::with_capacity(alloc, nodes)?,
         swaps: Vec::with_capacity(alloc, nodes)?,
@@ -30,7 +30,7 @@ pub fn room_for(alloc: Global, nodes: usize) -> Result<Taken, NoMemory>
 }
 
 /// Takes a node's endpoints, interface and disk.
-fn take(taken: &mut Taken, part: NodePart)
+fn take(taken: &mut TakenParts, part: NodePart)
     requires { HasRoomFor 1 taken.old }
     ensures taken { IsTaken taken.old part taken.new }
     ensures room { (n : ℕ) → HasRoomFor (n + 1) taken.old → HasRoomFor n taken.new }
@@ -48,7 +48,7 @@ fn take(taken: &mut Taken, part: NodePart)
 }
 
 /// Takes the nodes' endpoints, interfaces and disks, in their order, into lists that have room for them.
-pub fn take_apart(mut parts: Vec<NodePart>, mut taken: Taken) -> Taken
+pub fn take_apart(mut parts: Vec<NodePart>, mut taken: TakenParts) -> TakenParts
     requires none { IsEmpty taken }
     requires room { HasRoomFor (length parts.items) taken }
     ensures { IsTakenFrom parts.items result }

@@ -7,9 +7,9 @@ ghost use Rattle.am_office_text.specs.EntryLines.Lines as text;
 ghost use Rattle.am_office_text.specs.Words.{spaced};
 ghost use Rattle.am_office_text.specs.Pieces.{Extends};
 
-use crate::Piece::{Number, Tag, Text};
+use crate::LinePiece::{Number, Tag, Text};
 use crate::{
-    Piece, cause_word, count, put_end, put_numbered, put_numbers, put_spaced, put_word, small,
+    LinePiece, cause_word, count, put_end, put_numbered, put_numbers, put_spaced, put_word, small,
     verdict_word, why_word,
 };
 use am_names::{EndpointId, Message, NoMemory, NodeId, Serial, Words};
@@ -46,7 +46,7 @@ fn put_message(out: &mut Vec<u8>, text: &'static str, serial: Serial) -> Result<
     ensures kept { Extends out.old.items out.new.items }
 {
     put_word(out, Text(text))?;
-    put_spaced(out, &[Piece::Serial(serial)])
+    put_spaced(out, &[LinePiece::Serial(serial)])
 }
 
 #[tactic(auto, unfolding(crate::specs::EntryLines::Lines::actor))]
@@ -156,7 +156,7 @@ fn put_call(out: &mut Vec<u8>, end: EndpointId, call: &Call) -> Result<(), Alloc
             put_spaced(out, &[Text("handler"), own, small(index)])?;
             put_handler_kind(out, kind)
         }
-        Call::GiveUp(serial) => put_spaced(out, &[Text("giveup"), own, Piece::Serial(serial)]),
+        Call::GiveUp(serial) => put_spaced(out, &[Text("giveup"), own, LinePiece::Serial(serial)]),
         Call::Close => put_spaced(out, &[Text("close"), own]),
         Call::Test(mask) => put_spaced(out, &[Text("event"), own, Text(mask_word(mask))]),
     }

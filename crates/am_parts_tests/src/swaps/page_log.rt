@@ -16,9 +16,9 @@ struct Page {
 }
 
 impl Model for Page {
-    ghost use Rattle.am_swap_device.specs.Memory.{Held};
+    ghost use Rattle.am_swap_device.specs.Memory.{HeldImage};
 
-    ghost Value = { Held };
+    ghost Value = { HeldImage };
 
     ghost view = { λ p. record { key = p.key; bytes = p.bytes.items } };
 }

@@ -1,7 +1,7 @@
 -- What the code reads, against what reading gives.
 use Rattle.std.specs.Prelude.{◌≡◌, Option, Some, None, Result, Ok, Err}
-use Rattle.am_swap_codec.specs.declared.pieces.fault.ReadFault.{ReadFault}
-use Rattle.am_swap_codec.specs.declared.pieces.fault.ReadFault.TheVariants as faults
+use Rattle.am_swap_codec.specs.declared.pieces.fault.ImageFault.{ImageFault}
+use Rattle.am_swap_codec.specs.declared.pieces.fault.ImageFault.TheVariants as faults
 
 -- what the code read, seen by view, is what reading gives
 abbrev pub Gives : {X Y : Type 0} → (X → Y) → Option X → Option Y → Type 0
@@ -9,7 +9,7 @@ Gives view None read = read ≡ None
 Gives view (Some x) read = read ≡ Some (view x)
 
 -- the same, unless memory ran out
-abbrev pub Finds : {X Y : Type 0} → (X → Y) → Result X ReadFault → Option Y → Type 0
+abbrev pub Finds : {X Y : Type 0} → (X → Y) → Result X ImageFault → Option Y → Type 0
 Finds view (Ok x) read = read ≡ Some (view x)
 Finds view (Err faults.NoBody) read = read ≡ None
 Finds view (Err faults.NoMemory) read = Unit {0}

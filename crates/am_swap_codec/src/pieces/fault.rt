@@ -2,7 +2,7 @@ use thiserror::Error;
 
 /// Why no body was read.
 #[derive(Clone, Copy, Debug, Error)]
-pub enum ReadFault {
+pub enum ImageFault {
     /// The bytes are no image of a body of the endpoint.
     #[error("the bytes are the image of no body")]
     NoBody,

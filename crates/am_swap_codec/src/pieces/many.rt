@@ -4,15 +4,15 @@ ghost use Rattle.am_swap_image.specs.Image.{counted};
 ghost use Rattle.am_swap_image.specs.Reading.{counted_at, many_at};
 ghost use Rattle.std.specs.Prelude.{◌≡◌, ◌++◌, ◌<◌, OnOk, flat_map, length};
 
-use crate::pieces::fault::ReadFault;
-use crate::pieces::part::Part;
+use crate::pieces::fault::ImageFault;
+use crate::pieces::part::ImagePart;
 use crate::pieces::reading::take_byte;
 use crate::pieces::writing::put_byte;
 use am_names::EndpointId;
 use std::alloc::{AllocError, Global};
 
 /// Each part, one after another.
-pub fn put_each<P: Part>(out: &mut Vec<u8>, parts: &[P]) -> Result<(), AllocError>
+pub fn put_each<P: ImagePart>(out: &mut Vec<u8>, parts: &[P]) -> Result<(), AllocError>
     ensures { OnOk result (out.new.items ≡ out.old.items ++ flat_map P.text parts.now) }
 {
     for part in parts {
@@ -22,7 +22,7 @@ pub fn put_each<P: Part>(out: &mut Vec<u8>, parts: &[P]) -> Result<(), AllocErro
 }
 
 /// How many parts there are, and each.
-pub fn put_counted<P: Part>(out: &mut Vec<u8>, parts: &[P]) -> Result<(), AllocError>
+pub fn put_counted<P: ImagePart>(out: &mut Vec<u8>, parts: &[P]) -> Result<(), AllocError>
     requires { length parts.now < 256 }
     ensures { OnOk result (out.new.items ≡ out.old.items ++ counted P.text parts.now) }
 {
@@ -32,22 +32,22 @@ pub fn put_counted<P: Part>(out: &mut Vec<u8>, parts: &[P]) -> Result<(), AllocE
 }
 
 /// So many parts, each behind the one before it.
-pub fn take_many<P: Part>(
+pub fn take_many<P: ImagePart>(
     alloc: Global,
     id: EndpointId,
     count: u8,
     bytes: &[u8],
-) -> Result<(Vec<P>, &[u8]), ReadFault>
+) -> Result<(Vec<P>, &[u8]), ImageFault>
     ensures { Finds (λ x. (x.0.items, x.1.now)) result (many_at (P.at id) count bytes.now) }
 {
     let mut parts = Vec::new(alloc);
     let mut rest = bytes;
     for number in 0..count {
         match P::take(id, rest) {
-            None => return Err(ReadFault::NoBody),
+            None => return Err(ImageFault::NoBody),
             Some((part, after)) => {
                 let Ok(()) = parts.push(part) else {
-                    return Err(ReadFault::NoMemory);
+                    return Err(ImageFault::NoMemory);
                 };
                 rest = after;
             }
@@ -58,15 +58,15 @@ pub fn take_many<P: Part>(
 
 /// How many parts there are, and each.
 #[tactic(auto, unfolding(am_swap_image::specs::Reading::counted_at))]
-pub fn take_counted<P: Part>(
+pub fn take_counted<P: ImagePart>(
     alloc: Global,
     id: EndpointId,
     bytes: &[u8],
-) -> Result<(Vec<P>, &[u8]), ReadFault>
+) -> Result<(Vec<P>, &[u8]), ImageFault>
     ensures { Finds (λ x. (x.0.items, x.1.now)) result (counted_at (P.at id) bytes.now) }
 {
     match take_byte(bytes) {
-        None => Err(ReadFault::NoBody),
+        None => Err(ImageFault::NoBody),
         Some((count, rest)) => take_many(alloc, id, count, rest),
     }
 }

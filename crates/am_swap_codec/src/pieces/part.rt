@@ -22,7 +22,7 @@ use am_office_entries::HandlerKind;
 use std::alloc::AllocError;
 
 /// What an image of the body of an endpoint has lists of.
-pub trait Part: Drop {
+pub trait ImagePart: Drop {
     /// The bytes of a part.
     ghost text: { Self → List ℕ };
 
@@ -43,7 +43,7 @@ pub trait Part: Drop {
         ensures { Gives (λ x. (x.0, x.1.now)) result (at id bytes.now) };
 }
 
-impl Part for Option<Mapping> {
+impl ImagePart for Option<Mapping> {
     ghost text = { mapping_bytes };
 
     ghost at = { λ _. mapping_at };
@@ -63,7 +63,7 @@ impl Part for Option<Mapping> {
     }
 }
 
-impl Part for Awaited {
+impl ImagePart for Awaited {
     ghost text = { record_bytes };
 
     ghost at = { record_at };
@@ -83,7 +83,7 @@ impl Part for Awaited {
     }
 }
 
-impl Part for Option<HandlerKind> {
+impl ImagePart for Option<HandlerKind> {
     ghost text = { handler_bytes };
 
     ghost at = { λ _. handler_at };
@@ -103,7 +103,7 @@ impl Part for Option<HandlerKind> {
     }
 }
 
-impl Part for Queued {
+impl ImagePart for Queued {
     ghost text = { queued_bytes };
 
     ghost at = { λ _. message_at };
@@ -123,7 +123,7 @@ impl Part for Queued {
     }
 }
 
-impl Part for Notice {
+impl ImagePart for Notice {
     ghost text = { notice_bytes };
 
     ghost at = { λ _. notice_at };
@@ -144,7 +144,7 @@ impl Part for Notice {
 }
 
 /// A message that was received.
-impl Part for Message {
+impl ImagePart for Message {
     ghost text = { received_bytes };
 
     ghost at = { λ _. received_at };

@@ -4,7 +4,7 @@ ghost use Rattle.am_model.specs.History.{are_words_in_range, is_byte, is_eight_b
 ghost use Rattle.std.specs.List.{list_all};
 ghost use Rattle.std.specs.Prelude.{◌≡◌, ◌<◌, ◌^◌, true};
 
-use crate::pieces::part::Part;
+use crate::pieces::part::ImagePart;
 use am_model::{Awaited, Mapping, Notice, Queued};
 use am_names::{Message, Serial, Tag, Words};
 use am_office_entries::HandlerKind;
@@ -89,7 +89,7 @@ pub fn head_in_range(tag: Tag, sum: u64, accepted: u32)
 {}
 
 /// Each part of a list that is held.
-pub fn all_in_range<P: Part>(parts: &[P])
+pub fn all_in_range<P: ImagePart>(parts: &[P])
     ensures { list_all P.fits parts.now ≡ true }
 {
     for part in parts {

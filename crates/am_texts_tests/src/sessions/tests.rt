@@ -3,13 +3,13 @@
 use crate::sessions::tables::{FAULTS, REPORTS, STOPS};
 use am_lexer::What;
 use am_restart::{Say, Session, SessionCondition, SessionEvent, SessionFault, SessionOutcome};
-use am_session::{ReadFault, play, read_session, session_output, session_report};
+use am_session::{SessionReadFault, play, read_session, session_output, session_report};
 use std::alloc::Global;
 
 // The fault that reading a text gives, if it gives one.
 fn fault_of(alloc: Global, text: &str) -> Option<(u32, What)> {
     match read_session(alloc, text.as_bytes()) {
-        Err(ReadFault::Refused(fault)) => Some((fault.line, fault.what)),
+        Err(SessionReadFault::Refused(fault)) => Some((fault.line, fault.what)),
         _ => None,
     }
 }
@@ -68,7 +68,7 @@ fn at_most_65536_events(rt: HostRuntime) {
     assert!(rt; matches!(&read, Ok(script) if script.steps.len() == 65_536));
     let over = offers(rt.alloc(), 65_537).expect(&rt, "ample memory");
     assert!(rt;
-        matches!(read_session(rt.alloc(), &over), Err(ReadFault::Refused(fault)) if fault.line == 65_539 && fault.what == What::TooMany)
+        matches!(read_session(rt.alloc(), &over), Err(SessionReadFault::Refused(fault)) if fault.line == 65_539 && fault.what == What::TooMany)
     );
 }
 

@@ -2,7 +2,7 @@ use Rattle.std.proofs.Common.{◌≡◌, ◌<◌, [], ◌∷◌, ◌++◌, lengt
 use Rattle.std.proofs.lemmas.Grind.{common_steps}
 use Rattle.am_endpoint.specs.Kept.{replayed}
 use Rattle.am_endpoint.specs.View.{EndpointView}
-use Rattle.am_endpoint.specs.declared.held.Held.TheVariants.{Here}
+use Rattle.am_endpoint.specs.declared.held.HeldEndpoint.TheVariants.{Here}
 use Rattle.am_endpoint.proofs.Holding.{here_of}
 use Rattle.am_endpoint.proofs.Keeping.{flights_stay}
 use Rattle.am_endpoint.proofs.Logged.{entered, fits_next, here_after, order_next}

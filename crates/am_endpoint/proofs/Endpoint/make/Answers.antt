@@ -9,7 +9,7 @@ use Rattle.am_model.specs.Order.{IsInOrder}
 use Rattle.am_endpoint.specs.Kept.{replayed}
 use Rattle.am_endpoint.specs.View.{EndpointView}
 use Rattle.am_endpoint.specs.Seen.{state_in}
-use Rattle.am_endpoint.specs.declared.held.Held.TheVariants.{Here}
+use Rattle.am_endpoint.specs.declared.held.HeldEndpoint.TheVariants.{Here}
 use Rattle.am_endpoint.proofs.Holding.{here_of}
 use Rattle.am_endpoint.proofs.Logged.{entered, here_called, order_made, outcome_made}
 use Rattle.am_endpoint.proofs.Endpoint.make.Goals as goal

@@ -4,7 +4,7 @@ use Rattle.am_office_entries.specs.declared.Outcome.TheVariants as Out
 use Rattle.am_office_entries.specs.declared.Place.TheVariants.{Host}
 use Rattle.am_model.proofs.Order.{order_paged_in}
 use Rattle.am_endpoint.specs.View.{EndpointView, state_after}
-use Rattle.am_endpoint.specs.declared.held.Held.TheVariants.{Here}
+use Rattle.am_endpoint.specs.declared.held.HeldEndpoint.TheVariants.{Here}
 use Rattle.am_endpoint.proofs.Logged.{came, entered, order_next}
 use Rattle.am_endpoint.proofs.Endpoint.page_in.Goals as goal
 

@@ -4,7 +4,7 @@ use Rattle.am_model.proofs.Order.{order_settled}
 use Rattle.am_model.specs.Changes.{settled_in}
 use Rattle.am_endpoint.specs.Kept.{replayed}
 use Rattle.am_endpoint.specs.View.{EndpointView, state_after}
-use Rattle.am_endpoint.specs.declared.held.Held.TheVariants.{Here}
+use Rattle.am_endpoint.specs.declared.held.HeldEndpoint.TheVariants.{Here}
 use Rattle.am_endpoint.proofs.Holding.{here_of}
 use Rattle.am_endpoint.proofs.Keeping.{settling_keeps}
 use Rattle.am_endpoint.proofs.Logged.{entered, here_after, order_next, slot_held}

@@ -4,7 +4,7 @@ use Rattle.am_model.proofs.Order.{order_bound}
 use Rattle.am_endpoint.specs.Events.{keeps_in_memory}
 use Rattle.am_endpoint.specs.Kept.{replayed}
 use Rattle.am_endpoint.specs.View.{EndpointView, state_after}
-use Rattle.am_endpoint.specs.declared.held.Held.TheVariants.{Here}
+use Rattle.am_endpoint.specs.declared.held.HeldEndpoint.TheVariants.{Here}
 use Rattle.am_endpoint.proofs.Holding.{here_of}
 use Rattle.am_endpoint.proofs.Logged.{bound_here, entered, here_after, order_next}
 use Rattle.am_endpoint.proofs.Endpoint.take.Goals as goal

@@ -1,13 +1,13 @@
 use Rattle.std.proofs.Common.{◌∙◌, ◌++◌, ap, arith, List}
 use Rattle.std.specs.List.{flat_map}
-use Rattle.am_scenario_plan.specs.declared.shape_of.Held.{Held}
+use Rattle.am_scenario_plan.specs.declared.shape_of.LatePacket.{LatePacket}
 use Rattle.am_scenario_plan.specs.Held.{falls_due}
 use Rattle.am_scenario_plan.proofs.Holding.{shape_more, held_more}
 use Rattle.am_scenario_plan.proofs.shape_of.shape.Goals as goal
 
 pub loop-packet-preserved : goal.loop-packet-preserved
 loop-packet-preserved c =
-    let due = c.in_ok-release_held.ensures ∙ ap (λ (l : List Held). c.release.new.released.items ++ flat_map (falls_due c.loop-packet.number c.stamp_of.result)
+    let due = c.in_ok-release_held.ensures ∙ ap (λ (l : List LatePacket). c.release.new.released.items ++ flat_map (falls_due c.loop-packet.number c.stamp_of.result)
     l) c.deref.ensures.value in
     record {
       counted = omega (arith, c.loop-packet.invariant.counted);

@@ -4,4 +4,4 @@ use Rattle.am_swap_codec.proofs.Loop.{with_front}
 use Rattle.am_swap_codec.proofs.pieces.many.take_many.Given as goal
 
 abbrev pub invariant-loop-number : goal.invariant-loop-number
-invariant-loop-number g l = with_front l.parts.items (many_at (g.P.Part.at l.id) (l.count - l.number) l.rest) ≡ many_at (g.P.Part.at l.id) l.count l.bytes
+invariant-loop-number g l = with_front l.parts.items (many_at (g.P.ImagePart.at l.id) (l.count - l.number) l.rest) ≡ many_at (g.P.ImagePart.at l.id) l.count l.bytes
