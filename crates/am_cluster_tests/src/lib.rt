@@ -1,4 +1,4 @@
-//! Tests of the calls of a whole cluster: each made once with ample memory, and its threads at work at the same time.
+//! Tests of the calls of a whole cluster: each made once with ample memory, its threads at work at the same time, and a library over it.
 #![tactic(auto)]
 
 #[cfg(test)]
@@ -7,6 +7,8 @@ mod disks;
 mod gates;
 #[cfg(test)]
 mod halves;
+#[cfg(test)]
+mod library;
 #[cfg(test)]
 mod parted;
 #[cfg(test)]

@@ -4,7 +4,7 @@ use Rattle.am_check.specs.Exact.{IsChecked}
 use Rattle.am_check.specs.Laws.Laws.{YesIsTrue}
 use Rattle.am_lab.specs.Answers.{TellsWhy}
 use Rattle.am_lab.specs.Explains.{ExplainsReport}
-use Rattle.am_main_check.specs.Checks.{CheckAnswers}
+use Rattle.am_main_step.specs.Checks.{CheckAnswers}
 use Rattle.am_main_lines.specs.Lines.{Answer}
 use Rattle.am_names.specs.declared.Serial.{Serial}
 use Rattle.am_scenario_types.specs.declared.parts.Form.{Form}

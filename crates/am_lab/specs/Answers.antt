@@ -3,7 +3,7 @@ use Rattle.std.specs.Prelude.{◌≡◌, ◌≢◌, ◌⊎◌, ℕ, ◌≤◌, B
 use Rattle.std.specs.Fmt.{decimal}
 use Rattle.am_io.specs.Causes.{Rose, Stands, Counter}
 use Rattle.am_io.specs.Whole.{IsAll, IsLonger}
-use Rattle.am_main_check.specs.Checks.{CheckAnswers}
+use Rattle.am_main_step.specs.Checks.{CheckAnswers}
 use Rattle.am_main_lines.specs.Lines.{Answer}
 use Rattle.am_names.specs.declared.EndpointId.{EndpointId}
 use Rattle.am_office_text.specs.Words.{line}

@@ -7,7 +7,7 @@ use Rattle.am_check.specs.declared.faults.CheckWhat.{CheckWhat}
 use Rattle.am_lab_reasons.specs.Due.Due.{IsDue}
 use Rattle.am_lab_reasons.specs.Refusals.Refusals.{refusal_text, source_text}
 use Rattle.am_lab_reasons.specs.Stops.{stop_text}
-use Rattle.am_main_check.specs.Checks.{CheckAnswers}
+use Rattle.am_main_step.specs.Checks.{CheckAnswers}
 use Rattle.am_main_lines.specs.Lines.{Answer, full_line, refused_line}
 use Rattle.am_main_step.specs.Answer.{not_enabled_line}
 use Rattle.am_main_step.specs.Meaning.{IsNotEnabled, IsStepStopped, PrintsHistory}

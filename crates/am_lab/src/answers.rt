@@ -5,7 +5,7 @@ ghost use Rattle.am_lab.specs.Answers.{AnswersText, AnswersTo, TellsWhy, no_endp
 ghost use Rattle.am_lab_schedules.specs.Finds.{FindAnswers};
 ghost use Rattle.am_lab_words.specs.Ranges.{AreFewSeeds, IsInRange};
 ghost use Rattle.am_lab_reasons.specs.Reasons.{IsDeclared};
-ghost use Rattle.am_main_check.specs.Checks.{CheckAnswers};
+ghost use Rattle.am_main_step.specs.Checks.{CheckAnswers};
 ghost use Rattle.am_main_lines.specs.Lines.{answer_in};
 ghost use Rattle.am_main_run.specs.Runs.{RunAnswers};
 ghost use Rattle.am_scenario.specs.Grammar.{grammar};
@@ -28,7 +28,7 @@ use am_lab_schedules::{Wanted, find_output, schedules_output};
 use am_lab_shrink::{Making, shrink_output};
 use am_lab_state::{StateLines, state_output};
 use am_lab_words::{Asked, Lines, Seeds, States};
-use am_main_check::check_output;
+use am_main_step::check_output;
 use am_main_lines::Output;
 use am_names::{EndpointId, NoMemory, Serial};
 use am_office_text::{put_line, small};

@@ -1,7 +1,7 @@
 -- The answer of `chart`.
 use Rattle.std.proofs.Common.{◌≡◌, ◌≢◌, ℕ, List, Option, inl, refl}
 use Rattle.am_lab_drawings.specs.declared.view.parts.LineRange.{LineRange}
-use Rattle.am_main_check.specs.Checks.{CheckAnswers}
+use Rattle.am_main_step.specs.Checks.{CheckAnswers}
 use Rattle.am_main_lines.specs.Lines.{Answer}
 use Rattle.am_scenario_types.specs.declared.parts.Form.{Form}
 use Rattle.am_lab_drawings.specs.Charts.{ChartAnswers}

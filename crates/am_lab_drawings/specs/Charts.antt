@@ -11,7 +11,7 @@ use Rattle.am_office_text.specs.Words.{line}
 use Rattle.am_lab_drawings.specs.declared.view.parts.LineRange.{LineRange}
 use Rattle.am_lab_drawings.specs.declared.view.parts.PictureFault.{PictureFault}
 use Rattle.am_lab_drawings.specs.declared.view.parts.PictureFault.TheVariants as Faults
-use Rattle.am_main_check.specs.Checks.{CheckAnswers}
+use Rattle.am_main_step.specs.Checks.{CheckAnswers}
 use Rattle.am_main_lines.specs.Lines.{Answer}
 use Rattle.am_scenario_types.specs.declared.parts.Form.{Form}
 

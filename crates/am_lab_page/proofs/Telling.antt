@@ -11,7 +11,7 @@ use Rattle.am_lab_picture.specs.Rows.{entries_in, row, rows}
 use Rattle.am_lab_picture.specs.declared.data.Row.{Row}
 use Rattle.am_lab_reasons.proofs.Reported.{same_scenario}
 use Rattle.am_lemmas.specs.Numbered.{numbered}
-use Rattle.am_main_check.specs.Checks.{CheckAnswers}
+use Rattle.am_main_step.specs.Checks.{CheckAnswers}
 use Rattle.am_main_lines.specs.declared.outputs.Output.{Output}
 use Rattle.am_main_lines.specs.Lines.{Answer, answer_in}
 use Rattle.am_office_entries.specs.declared.Entry.{Entry}

@@ -6,7 +6,7 @@ use Rattle.am_check.specs.Follows.{ids_of}
 use Rattle.am_check.specs.Verdict.{IsReportOf}
 use Rattle.am_check.proofs.Returning.{begun_by}
 use Rattle.am_check.specs.Laws.Laws.{IsRunHistory, IsTrueReport}
-use Rattle.am_main_check.specs.Checks.{CheckAnswers}
+use Rattle.am_main_step.specs.Checks.{CheckAnswers}
 use Rattle.am_main_lines.specs.declared.outputs.Output.{Output}
 use Rattle.am_main_lines.specs.Lines.{Answer, answer_in}
 use Rattle.am_office_entries.specs.declared.Entry.{Entry}

@@ -3,7 +3,7 @@ use Rattle.std.specs.Prelude.{◌≡◌, ◌≢◌, ◌⊎◌, ℕ, zero, suc, �
 use Rattle.std.specs.Fmt.{decimal}
 use Rattle.am_check.specs.Cut.{place_of}
 use Rattle.am_check.specs.Verdict.{IsReportOf}
-use Rattle.am_main_check.specs.Checks.{CheckAnswers}
+use Rattle.am_main_step.specs.Checks.{CheckAnswers}
 use Rattle.am_main_lines.specs.Lines.{Answer}
 use Rattle.am_office_entries.specs.declared.Entry.{Entry}
 use Rattle.am_office_text.specs.Words.{line}

@@ -12,7 +12,7 @@ use Rattle.am_main.specs.declared.commands.Command.TheVariants as Commands
 use Rattle.am_main.proofs.Statuses.{never}
 use Rattle.am_check.specs.declared.faults.CheckStop.{CheckStop}
 use Rattle.am_check.specs.declared.faults.CheckStop.TheVariants as Stops
-use Rattle.am_main_check.specs.Checks.{Tells}
+use Rattle.am_main_step.specs.Checks.{Tells}
 use Rattle.am_main_run.specs.Counts.Counts.{CountAnswers, CountsWords}
 use Rattle.am_main_lines.specs.Lines.{Answer}
 use Rattle.am_main_run.specs.Runs.{MakeAnswers, PrintsRun, RunAnswers, Summarizes}

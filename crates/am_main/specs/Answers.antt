@@ -7,7 +7,7 @@ use Rattle.am_main.specs.declared.commands.Command.TheVariants as Commands
 use Rattle.am_main_answer.specs.Answers.{IsDueOffered, IsDueTaken, IsDueTo}
 use Rattle.am_main_answer.specs.Answers.{IsDueToText as IsDueToBytes}
 pub use Rattle.am_main_answer.specs.Answers.{Finds, IsOneOf, LacksMemory}
-use Rattle.am_main_check.specs.Checks.{CheckAnswers}
+use Rattle.am_main_step.specs.Checks.{CheckAnswers}
 use Rattle.am_main_run.specs.Counts.Counts.{CountAnswers}
 use Rattle.am_main_lines.specs.Lines.{Answer}
 use Rattle.am_main_run.specs.Runs.{MakeAnswers, RunAnswers}

@@ -8,7 +8,7 @@ ghost use Rattle.am_session.specs.Grammar as sessions;
 ghost use Rattle.am_session.specs.Meaning.{SessionMeans};
 
 use crate::commands::Command;
-use am_main_check::check_output;
+use am_main_step::check_output;
 use am_main_lines::Output;
 use am_main_run::counts::count_output;
 use am_main_run::segments::segments_output;

@@ -1,3 +1,4 @@
 pub mod Answers
 pub mod Made
 mod OneAnswer
+mod CheckAnswers

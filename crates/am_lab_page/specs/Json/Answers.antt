@@ -1,7 +1,7 @@
 -- What the command `json` answers.
 use Rattle.std.specs.Prelude.{◌≡◌, ◌≢◌, ◌⊎◌, ℕ, List}
 use Rattle.am_check.specs.Exact.{IsChecked}
-use Rattle.am_main_check.specs.Checks.{CheckAnswers}
+use Rattle.am_main_step.specs.Checks.{CheckAnswers}
 use Rattle.am_main_lines.specs.Lines.{Answer}
 use Rattle.am_scenario_types.specs.declared.parts.Form.{Form}
 use Rattle.am_lab_page.specs.Json.Objects.{json_of}

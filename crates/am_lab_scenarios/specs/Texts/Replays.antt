@@ -2,7 +2,7 @@
 use Rattle.std.specs.Prelude.{◌≡◌, ◌≢◌, ◌⊎◌, ℕ, ◌≤◌, ◌<◌, List, codes, length}
 use Rattle.am_check.specs.Follows.{ids_of}
 use Rattle.am_check.specs.Laws.Laws.{IsRunHistory, IsTrueReport}
-use Rattle.am_main_check.specs.Checks.{CheckAnswers}
+use Rattle.am_main_step.specs.Checks.{CheckAnswers}
 use Rattle.am_main_lines.specs.Lines.{Answer}
 use Rattle.am_office_entries.specs.declared.Entry.{Entry}
 use Rattle.am_office_report.specs.Report.{report}

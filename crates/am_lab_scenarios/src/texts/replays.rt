@@ -2,7 +2,7 @@
 
 ghost use Rattle.am_check.specs.Laws.Laws.{IsRunHistory, IsTrueReport};
 ghost use Rattle.am_lab_scenarios.specs.Texts.Replays.{IsReportOfRun, ReplayAnswers, TellsRun, journal_too_long};
-ghost use Rattle.am_main_check.specs.Checks.{CheckAnswers};
+ghost use Rattle.am_main_step.specs.Checks.{CheckAnswers};
 ghost use Rattle.am_main_lines.specs.Lines.{answer_in};
 ghost use Rattle.am_office_entries.specs.declared.Entry.{Entry};
 ghost use Rattle.am_scenario_types.specs.Lawful.{IsLawful};
@@ -14,7 +14,7 @@ use crate::spelling::replay_text;
 use am_check::place_of;
 use am_lab_reasons::journal::reach_end;
 use am_machine::Cluster;
-use am_main_check::check_output;
+use am_main_step::check_output;
 use am_main_lines::Output;
 use am_names::NoMemory;
 use am_office_entries::Journal;

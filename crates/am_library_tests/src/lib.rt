@@ -1,7 +1,0 @@
-//! Tests of what a library is made of: each call made once with ample memory, and what a small run comes to.
-#![tactic(auto)]
-
-#[cfg(test)]
-mod drafts;
-#[cfg(test)]
-mod tests;

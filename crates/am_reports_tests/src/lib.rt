@@ -1,5 +1,0 @@
-//! Tests of printed and of checked reports.
-#![tactic(auto)]
-
-mod checked;
-mod printed;
