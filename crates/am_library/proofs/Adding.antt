@@ -147,7 +147,7 @@ sends_none s e layout past (Events.Call actor end call) o run good asked = refl
 sends_none s e layout past event o run good asked = refl
 
 -- what was accepted and weighs nothing is not among what weighs something
-weighs_none : (f : Message → ℕ) (past : List Entry) (m : Message) → sum_by f (filter_map accepted_of past) ≡ 0 → Contains (filter_map accepted_of past) m →
+pub weighs_none : (f : Message → ℕ) (past : List Entry) (m : Message) → sum_by f (filter_map accepted_of past) ≡ 0 → Contains (filter_map accepted_of past) m →
     f m ≡ 0
 weighs_none f past m none (k, below, at) =
     let here : f (get_or (filter_map accepted_of past) k m) ≡ f m = ap f at in
@@ -183,7 +183,7 @@ abbrev AllAdd : List (Option HandlerKind) → Type 0
 AllAdd kinds = (index : ℕ) → IsAdd (entry_at kinds index)
 
 -- what a handler's index has after another was set
-set_at : (kinds : List (Option HandlerKind)) (at : ℕ) (kind : Option HandlerKind) (P : Option HandlerKind → Type 0) (index : ℕ) → P (entry_at kinds index) →
+pub set_at : (kinds : List (Option HandlerKind)) (at : ℕ) (kind : Option HandlerKind) (P : Option HandlerKind → Type 0) (index : ℕ) → P (entry_at kinds index) →
     P kind → P (entry_at (slice_set kinds at kind) index)
 set_at kinds at kind P index old new =
     ⊎_elim
@@ -221,10 +221,10 @@ called_adds s c o good adds = adds
 
 -- ---- the handler of each request that it received is set
 
-abbrev is_unset : List (Option HandlerKind) → Message → Bool
+abbrev pub is_unset : List (Option HandlerKind) → Message → Bool
 is_unset kinds m = is_request m && is_none (entry_at kinds m.handler)
 
-abbrev HasHandler : List (Option HandlerKind) → Message → Type 0
+abbrev pub HasHandler : List (Option HandlerKind) → Message → Type 0
 HasHandler kinds m = is_unset kinds m ≡ false
 
 still_set : (request : Bool) (o p : Option HandlerKind) → (is_none o ≡ false → is_none p ≡ false) → (request && is_none o) ≡ false →
@@ -252,7 +252,7 @@ called_set s (Calls.GiveUp serial) Out.Done m is = is
 called_set s Calls.Close Out.Done m is = is
 called_set s c o m is = is
 
-changed_set : (e : EndpointId) (s : State) (event : Event) (o : Outcome) (m : Message) → HasHandler s.body.handlers m →
+pub changed_set : (e : EndpointId) (s : State) (event : Event) (o : Outcome) (m : Message) → HasHandler s.body.handlers m →
     HasHandler (changed e s event o).body.handlers m
 changed_set e s (Events.Call actor end call) o m is = called_set s call o m is
 changed_set e s event o m is =
@@ -456,7 +456,7 @@ sums_step s e past x so_far goes = record {
         ∙ ap (λ (n : ℕ). (sum_by (adds_word e) (filter_map run_of past) + n) % 2 ^ 64) (sym (untouched_adds (layout_of s) e past x at (run_of x) goes.first.1))
         ∙ ap (λ (n : ℕ). n % 2 ^ 64) (sym total)
 
-none_at : (n index : ℕ) → entry_at {X = HandlerKind} (replicate n None) index ≡ None
+pub none_at : (n index : ℕ) → entry_at {X = HandlerKind} (replicate n None) index ≡ None
 none_at n index = by_test (nat_lt index n) refl
   where
     by_test : (t : Bool) → nat_lt index n ≡ t → entry_at {X = HandlerKind} (replicate n None) index ≡ None

@@ -1,6 +1,6 @@
 -- The laws of a library, from those of runs.
 use Rattle.std.proofs.Common.{◌≡◌, ◌≢◌, ◌⊎◌, inl, inr, ℕ, zero, suc, ◌+◌, ◌%◌, ◌^◌, ◌<◌, ◌≤◌, Bool, true, false, ◌&&◌, Option, Some, None, List, [], ◌∷◌}
-use Rattle.std.proofs.Common.{refl, sym, ap, ◌∙◌, subst}
+use Rattle.std.proofs.Common.{refl, sym, ap, ◌∙◌, subst, ⊎_elim}
 use Rattle.std.proofs.Common.{get_or, length, map, count_by, filter_map, if◌then◌else◌, arith, eqb-true, eq-eqb}
 use Rattle.std.specs.Prelude.{◌==◌, MatchOption, filter, sum_by}
 use Rattle.std.specs.List.{Contains}
@@ -20,19 +20,23 @@ use Rattle.am_office_entries.specs.declared.endings.Fate.TheVariants as Fates
 use Rattle.am_office_entries.specs.Entries.{accepted_of, run_of}
 use Rattle.am_office_entries.specs.Fates.{fate, fate_of_accepted, is_accepted}
 use Rattle.am_laws.specs.Fates.{HasOneFate, IsFated}
-use Rattle.am_model.specs.PostOffice.{WasAccepted, times}
+use Rattle.am_model.specs.PostOffice.{WasAccepted, is_about, times}
 use Rattle.am_scenario_types.specs.Lists.{ScenarioLists}
 use Rattle.am_model_scripts.specs.Layout.{layout_of}
 use Rattle.am_laws_runs.specs.Turns.Endings.{WithholdsNothing}
 use Rattle.am_library.specs.Ends.{is_back, is_lost, words_asked, words_fated, words_of, words_refused, words_run}
-use Rattle.am_library.specs.Laws.{EachRequestHasItsEnd, EachRunHasOneReply, NothingIsLost, RanOrCameBack, RunsAtMostOnce, SumsAreOfRuns, TheUnknownDidNotRun}
-use Rattle.am_library.specs.Laws.{WhatCameBackNeverRan, WhatRanWasAskedFor, WholeSums, first_of, first_word}
+use Rattle.am_library.specs.Laws.{AllRunWhereTheyLead, EachAskedHasItsEnd, EachReplyHasItsEnd, EachRequestHasItsEnd, EachRunHasOneReply, EchoesAreWords}
+use Rattle.am_library.specs.Laws.{EndOf, HasOneReply, IsGone, ItRan, NothingIsLost, RanOrCameBack, RunsAtMostOnce, SumsAreOfRuns, TheUnknownDidNotRun}
+use Rattle.am_library.specs.Laws.{WasRefused, WhatCameBackNeverRan, WhatRanWasAskedFor, WholeSums, first_of, first_word}
 use Rattle.am_library.specs.Runs.{IsRun}
-use Rattle.am_library.specs.Views.{is_to, requests_run, runs_at}
+use Rattle.am_library.specs.Views.{is_to, requests_run, requests_sent, runs_at}
 use Rattle.am_library.proofs.Adding.{is_sum_of_runs}
 use Rattle.am_library.proofs.Distinct.{count_role, found_in, has_at, runs_once}
+use Rattle.am_library.proofs.Echoing as echoed
 use Rattle.am_library.proofs.Ended.{add_up}
-use Rattle.am_library.proofs.Replied.{has_one_reply}
+use Rattle.am_library.proofs.Endings.{back_is, gone, lost_is, of_words, one_of_four, unheard}
+use Rattle.am_library.proofs.Leading.{runs_lead}
+use Rattle.am_library.proofs.Replied.{has_one_reply, kept_among}
 use Rattle.am_library.proofs.Weights.{only, sum_filter, sum_map}
 
 only_less : (a : Bool) (n : ℕ) → only a n ≤ n
@@ -184,6 +188,12 @@ has_words w (v ∷ ws) some = by_test (has_words w ws) (same_words v w) refl
         let none : only (same_words v w) 1 ≡ 0 = ap (λ (b : Bool). only b 1) is in
         Contains-append_right (v ∷ []) ws w (later (omega (arith, sum_by-cons (λ (u : Words). only (same_words u w) 1) v ws, none, some)))
 
+weighs_some : (w : Words) (ws : List Words) → Contains ws w → 1 ≤ sum_by (λ (v : Words). only (same_words v w) 1) ws
+weighs_some w ws (k, below, at) =
+    let here : only (same_words (get_or ws k w) w) 1 ≡ 1 =
+    ap (λ (v : Words). only (same_words v w) 1) at ∙ ap (λ (b : Bool). only b 1) (same_words-refl w) in
+    omega (arith, get_or-le-sum_by (λ (v : Words). only (same_words v w) 1) ws k w below, here)
+
 pub what_ran_was_asked_for : WhatRanWasAskedFor
 what_ran_was_asked_for s journal m run (k, below, at) =
     let weight : Words → ℕ = λ (v : Words). only (same_words v m.words) 1 in
@@ -197,3 +207,64 @@ what_ran_was_asked_for s journal m run (k, below, at) =
       get_or-le-sum_by (λ (n : Message). weight n.words) runs k m below,
       here,
     ))
+
+-- ---- what was asked for has its end
+
+has_end : (s : ScenarioLists) (journal : List Entry) (w : Words) → IsRun s journal → Contains (words_asked s.script) w → EndOf s journal w
+has_end s journal w run has =
+    let weight : Words → ℕ = λ (v : Words). only (same_words v w) 1 in
+    let some : 1 ≤ sum_by weight (words_asked s.script) = weighs_some w (words_asked s.script) has in
+    ⊎_elim
+    (λ (first : (1 ≤ sum_by weight (words_run journal)) ⊎ (1 ≤ sum_by weight (words_refused journal))).
+    ⊎_elim
+    (λ (ran : 1 ≤ sum_by weight (words_run journal)).
+    let m = of_words (requests_run journal) w (has_words w (words_run journal) ran) in ItRan m.0 m.1 m.2)
+    (λ (refused : 1 ≤ sum_by weight (words_refused journal)). WasRefused (has_words w (words_refused journal) refused)) first)
+    (λ (second : (1 ≤ sum_by weight (words_fated is_back journal)) ⊎ (1 ≤ sum_by weight (words_fated is_lost journal))).
+    ⊎_elim
+    (λ (back : 1 ≤ sum_by weight (words_fated is_back journal)).
+    let m = fated_of is_back (has_words w (words_fated is_back journal) back) in
+    let cause = back_is (fate journal m.0.serial) m.3 in
+    IsGone m.0 m.1 m.2 (inl (cause.0, cause.1, λ (nothing : WithholdsNothing s). run.obeys.for_good nothing m.0.serial cause.0 cause.1)))
+    (λ (lost : 1 ≤ sum_by weight (words_fated is_lost journal)).
+    let m = fated_of is_lost (has_words w (words_fated is_lost journal) lost) in
+    let unknown = lost_is (fate journal m.0.serial) m.3 in
+    IsGone m.0 m.1 m.2 (inr (unknown, λ (nothing : WithholdsNothing s). (run.obeys.complete nothing m.0.serial).0 unknown))) second)
+    (one_of_four (sum_by weight (words_run journal)) (sum_by weight (words_refused journal)) (sum_by weight (words_fated is_back journal))
+    (sum_by weight (words_fated is_lost journal))
+    (omega (arith, each_request_has_its_end s journal run weight, some)))
+  where
+    fated_of : (passes' : Option Fate → Bool) → Contains (words_fated passes' journal) w →
+        (m : Message) × Contains (requests_sent journal) m × (m.words ≡ w) × (passes' (fate journal m.serial) ≡ true)
+    fated_of passes' has' =
+        let some = of_words (filter (λ (m : Message). passes' (fate journal m.serial)) (requests_sent journal)) w has' in
+        let kept = kept_among (λ (m : Message). passes' (fate journal m.serial)) (requests_sent journal) some.0 some.1 in
+        (some.0, kept.0, some.2, kept.1)
+
+pub each_asked_has_its_end : EachAskedHasItsEnd
+each_asked_has_its_end s journal w run has = has_end s journal w run has
+
+pub each_reply_has_its_end : EachReplyHasItsEnd
+each_reply_has_its_end s journal m run has none =
+    let one : HasOneReply journal m = each_run_has_one_reply s journal m run has in
+    let there = kept_among (is_about m.serial) (filter_map accepted_of journal) one.reply
+    (subst (λ (l : List Message). Contains l one.reply) (sym one.only) (Contains-push [] one.reply)) in
+    record {
+      reply = one.reply;
+      only = one.only;
+      nothing =
+          ⊎_elim
+          (λ (back : (cause : Cause) × (fate journal one.reply.serial ≡ Some (Fates.Returned cause))).
+          inl (back.0, back.1, λ (nothing : WithholdsNothing s). run.obeys.for_good nothing one.reply.serial back.0 back.1))
+          (λ (lost : fate journal one.reply.serial ≡ Some Fates.Unknown).
+          inr (lost, λ (nothing : WithholdsNothing s). (run.obeys.complete nothing one.reply.serial).0 lost))
+          (gone journal one.reply there.0 (unheard (layout_of s) journal run.obeys.laws m.serial one.reply there.0 there.1 none) run.whole.settled);
+    }
+
+pub echoes_are_words : EchoesAreWords
+echoes_are_words s journal e m reply run echoes has heard =
+    echoed.echoes_are_words s journal e m reply run.lawful run.obeys.history run.obeys.laws run.whole.follows.scripts run.whole.follows.events echoes has heard
+
+pub all_run_where_they_lead : AllRunWhereTheyLead
+all_run_where_they_lead s journal e run leads =
+    runs_lead s journal e run.lawful run.obeys.history run.obeys.laws run.whole.follows.scripts run.whole.follows.events leads

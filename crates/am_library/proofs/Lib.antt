@@ -10,4 +10,8 @@ pub mod Drafted
 pub mod Accounting
 pub mod Ran
 pub mod Running
+pub mod Scripted
+pub mod Leading
+pub mod Echoing
+pub mod Endings
 pub mod Lawful

@@ -183,7 +183,7 @@ only_less : (a : Bool) (n : ℕ) → only a n ≤ n
 only_less true n = omega arith
 only_less false n = omega arith
 
-kept_among : (p : Message → Bool) (xs : List Message) (m : Message) → Contains (filter p xs) m → Contains xs m × (p m ≡ true)
+pub kept_among : (p : Message → Bool) (xs : List Message) (m : Message) → Contains (filter p xs) m → Contains xs m × (p m ≡ true)
 kept_among p xs m has = (
   All-contains (Contains xs) (filter p xs) m (All-filter p (Contains xs) xs (All-contains_itself xs)) has,
   All-contains (λ (n : Message). p n ≡ true) (filter p xs) m (filter_passes p xs) has,

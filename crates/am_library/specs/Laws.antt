@@ -1,5 +1,5 @@
 -- What a library may rely on, in its words.
-use Rattle.std.specs.Prelude.{◌≡◌, ℕ, ◌%◌, ◌^◌, ◌≤◌, ◌⊎◌, Bool, true, false, ◌||◌, not, Some, List, [], ◌∷◌, count_by, filter, filter_map, length, sum_by}
+use Rattle.std.specs.Prelude.{◌≡◌, ℕ, ◌%◌, ◌^◌, ◌≤◌, ◌⊎◌, Bool, true, false, ◌||◌, not, Some, None, List, [], ◌∷◌, count_by, filter, filter_map, length, sum_by}
 use Rattle.std.specs.List.{Contains, list_all}
 use Rattle.am_names.specs.Rules.{is_transient}
 use Rattle.am_names.specs.declared.Cause.{Cause}
@@ -10,7 +10,7 @@ use Rattle.am_names.specs.declared.Words.{Words}
 use Rattle.am_names.specs.Names.{has_serial, same_end}
 use Rattle.am_office_entries.specs.declared.Call.{Call}
 use Rattle.am_office_entries.specs.declared.Call.TheVariants as Calls
-use Rattle.am_office_entries.specs.declared.HandlerKind.TheVariants.{Add}
+use Rattle.am_office_entries.specs.declared.HandlerKind.TheVariants.{Add, Echo}
 use Rattle.am_office_entries.specs.declared.Entry.{Entry}
 use Rattle.am_office_entries.specs.declared.endings.Fate.TheVariants as Fates
 use Rattle.am_office_entries.specs.Entries.{accepted_of}
@@ -19,9 +19,9 @@ use Rattle.am_model.specs.PostOffice.{WasAccepted, is_about}
 use Rattle.am_scenario_types.specs.declared.parts.ScriptCall.{ScriptCall}
 use Rattle.am_scenario_types.specs.Lists.{ScenarioLists}
 use Rattle.am_laws_runs.specs.Turns.Endings.{WithholdsNothing}
-use Rattle.am_library.specs.Ends.{AddUp, words_asked}
+use Rattle.am_library.specs.Ends.{AddUp, words_asked, words_refused}
 use Rattle.am_library.specs.Runs.{IsRun}
-use Rattle.am_library.specs.Views.{requests_run, runs_at, sum_at}
+use Rattle.am_library.specs.Views.{reply_to, requests_run, requests_sent, runs_at, sum_at}
 
 -- one reply to a request was accepted: it goes back to the request's source, under the tag that the request gives
 pub record HasOneReply (journal : List Entry) (m : Message) : Type 0 where
@@ -43,6 +43,31 @@ leaves_adding e made = not (same_end e made.endpoint) || is_adding made.call
 -- an endpoint that adds: each handler that the script sets there is `add`, and it makes no requests
 abbrev pub Adds : ScenarioLists → EndpointId → Type 0
 Adds s e = list_all (leaves_adding e) s.script ≡ true
+
+-- whether a call leaves the handlers of its endpoint such that each echoes
+abbrev pub is_echoing : Call → Bool
+is_echoing (Calls.SetHandler index (Echo to)) = true
+is_echoing (Calls.SetHandler index kind) = false
+is_echoing call = true
+
+abbrev pub leaves_echoing : EndpointId → ScriptCall → Bool
+leaves_echoing e made = not (same_end e made.endpoint) || is_echoing made.call
+
+-- an endpoint that echoes: each handler that the script sets there is `echo`
+abbrev pub Echoes : ScenarioLists → EndpointId → Type 0
+Echoes s e = list_all (leaves_echoing e) s.script ≡ true
+
+-- whether a call, if it maps an index, maps it to the endpoint
+abbrev pub maps_to : EndpointId → Call → Bool
+maps_to e (Calls.Map index name tag credits) = same_end e name
+maps_to e call = true
+
+abbrev pub leads : EndpointId → ScriptCall → Bool
+leads e made = maps_to e made.call
+
+-- one endpoint to which all lead: each map of the script names it
+abbrev pub LeadsTo : ScenarioLists → EndpointId → Type 0
+LeadsTo s e = list_all (leads e) s.script ≡ true
 
 abbrev pub first_word : Message → ℕ
 first_word m = m.words.a
@@ -82,6 +107,44 @@ TheUnknownDidNotRun =
 -- a request that ran has one reply, under its tag
 abbrev pub EachRunHasOneReply : Type 0
 EachRunHasOneReply = (s : ScenarioLists) (journal : List Entry) (m : Message) → IsRun s journal → Contains (requests_run journal) m → HasOneReply journal m
+
+-- the reply to a request that ran at an endpoint that echoes has its words
+abbrev pub EchoesAreWords : Type 0
+EchoesAreWords =
+    (s : ScenarioLists) (journal : List Entry) (e : EndpointId) (m reply : Message) → IsRun s journal → Echoes s e → Contains (runs_at journal e) m →
+    reply_to journal m.serial ≡ Some reply → reply.words ≡ m.words
+
+-- a message came to nothing: it came back, and where the plan withholds nothing for a cause that isn't transient; or it is unknown and did
+-- not run, which is so only where the plan withholds something
+abbrev pub CameToNothing : ScenarioLists → List Entry → Message → Type 0
+CameToNothing s journal m =
+    ((cause : Cause) × (fate journal m.serial ≡ Some (Fates.Returned cause)) × (WithholdsNothing s → is_transient cause ≡ false))
+    ⊎ ((fate journal m.serial ≡ Some Fates.Unknown) × (WithholdsNothing s → ⊥))
+
+-- a request that ran is answered, or its one reply came to nothing
+pub record IsUnanswered (s : ScenarioLists) (journal : List Entry) (m : Message) : Type 0 where
+  pub reply : Message
+  pub only : filter (is_about m.serial) (filter_map accepted_of journal) ≡ reply ∷ []
+  pub nothing : CameToNothing s journal reply
+
+abbrev pub EachReplyHasItsEnd : Type 0
+EachReplyHasItsEnd =
+    (s : ScenarioLists) (journal : List Entry) (m : Message) → IsRun s journal → Contains (requests_run journal) m → reply_to journal m.serial ≡ None →
+    IsUnanswered s journal m
+
+-- what became of a request of the script with these words: it ran, it was refused when it was asked for, or it came to nothing
+pub data EndOf (s : ScenarioLists) (journal : List Entry) (words : Words) : Type 0 where
+  ItRan : (m : Message) → Contains (requests_run journal) m → m.words ≡ words → EndOf s journal words
+  WasRefused : Contains (words_refused journal) words → EndOf s journal words
+  IsGone : (m : Message) → Contains (requests_sent journal) m → m.words ≡ words → CameToNothing s journal m → EndOf s journal words
+
+abbrev pub EachAskedHasItsEnd : Type 0
+EachAskedHasItsEnd =
+    (s : ScenarioLists) (journal : List Entry) (words : Words) → IsRun s journal → Contains (words_asked s.script) words → EndOf s journal words
+
+-- where all lead to one endpoint, each request that ran, ran there
+abbrev pub AllRunWhereTheyLead : Type 0
+AllRunWhereTheyLead = (s : ScenarioLists) (journal : List Entry) (e : EndpointId) → IsRun s journal → LeadsTo s e → runs_at journal e ≡ requests_run journal
 
 -- the sum of an endpoint that adds is that of what ran there
 abbrev pub SumsAreOfRuns : Type 0

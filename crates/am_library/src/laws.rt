@@ -1,7 +1,8 @@
 //! The laws of delivery, in a library's words. Each is so of every run of a lawful scenario, whatever the schedule and the plan: a library
 //! cites it by calling it. That what an endpoint ran comes in an order that somebody gave is no law.
 
-ghost use Rattle.am_library.specs.Laws.{EachRequestHasItsEnd, EachRunHasOneReply, NothingIsLost, RunsAtMostOnce, SumsAreOfRuns, TheUnknownDidNotRun};
+ghost use Rattle.am_library.specs.Laws.{AllRunWhereTheyLead, EachAskedHasItsEnd, EachReplyHasItsEnd, EachRequestHasItsEnd, EachRunHasOneReply, EchoesAreWords};
+ghost use Rattle.am_library.specs.Laws.{NothingIsLost, RunsAtMostOnce, SumsAreOfRuns, TheUnknownDidNotRun};
 ghost use Rattle.am_library.specs.Laws.{WhatCameBackNeverRan, WhatRanWasAskedFor, WholeSums};
 
 /// A request ran at most once. Example: a library that draws money at each run of a request draws it once, though a link sends each
@@ -56,4 +57,29 @@ pub fn each_request_has_its_end()
 /// that one.
 pub fn what_ran_was_asked_for()
     ensures { WhatRanWasAskedFor }
+{}
+
+/// Each request that the script asks for ran, was refused when it was asked for, or came to nothing: it came back or is unknown. Where the
+/// plan withholds nothing, none is unknown, and it came back for a cause that isn't transient. Example: after a round without losses a
+/// library asks again for what the cluster refused, and for nothing else.
+pub fn each_asked_has_its_end()
+    ensures { EachAskedHasItsEnd }
+{}
+
+/// Where the client heard no reply to a request that ran, its one reply came to nothing. Example: the effect is there, so a library that asks
+/// again does so under the same token, and the server counts it once.
+pub fn each_reply_has_its_end()
+    ensures { EachReplyHasItsEnd }
+{}
+
+/// The reply that is heard from an endpoint whose handlers all echo has the words of its request. Example: each call has an answer of its
+/// own, whatever the links repeated.
+pub fn echoes_are_words()
+    ensures { EchoesAreWords }
+{}
+
+/// Where each map of the script names one endpoint, all requests that ran, ran there. Example: what a library with one server doesn't see
+/// there ran nowhere.
+pub fn all_run_where_they_lead()
+    ensures { AllRunWhereTheyLead }
 {}

@@ -1,0 +1,5 @@
+use Rattle.am_library.proofs.Lawful.{each_reply_has_its_end}
+use Rattle.am_library.proofs.laws.each_reply_has_its_end.Goals as goal
+
+pub returns : goal.returns
+returns c = each_reply_has_its_end
