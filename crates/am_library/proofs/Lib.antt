@@ -5,10 +5,12 @@ pub mod Ended
 pub mod Replied
 pub mod Summed
 pub mod Adding
+pub mod Handled
 pub mod Faulty
 pub mod Drafted
 pub mod Accounting
 pub mod Ran
+pub mod Endwise
 pub mod Running
 pub mod Scripted
 pub mod Leading

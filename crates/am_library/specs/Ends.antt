@@ -1,6 +1,7 @@
 -- What became of each request that a script asks for: its call was refused, or its message ran, came back or is unknown. Each is told by
 -- the four words of the request.
-use Rattle.std.specs.Prelude.{◌≡◌, ℕ, ◌+◌, Bool, true, false, Option, Some, None, List, map, filter, filter_map, sum_by}
+use Rattle.std.specs.Prelude.{◌≡◌, ℕ, ◌+◌, Bool, true, false, ◌&&◌, Option, Some, None, List, map, filter, filter_map, sum_by, if◌then◌else◌}
+use Rattle.am_names.specs.Names.{is_request}
 use Rattle.am_names.specs.declared.Message.{Message}
 use Rattle.am_names.specs.declared.Words.{Words}
 use Rattle.am_office_entries.specs.declared.Call.{Call}
@@ -12,8 +13,11 @@ use Rattle.am_office_entries.specs.declared.Outcome.{Outcome}
 use Rattle.am_office_entries.specs.declared.Outcome.TheVariants as Out
 use Rattle.am_office_entries.specs.declared.endings.Fate.{Fate}
 use Rattle.am_office_entries.specs.declared.endings.Fate.TheVariants as Fates
+use Rattle.am_office_entries.specs.Entries.{accepted_of}
 use Rattle.am_office_entries.specs.Fates.{fate}
 use Rattle.am_scenario_types.specs.declared.parts.ScriptCall.{ScriptCall}
+use Rattle.am_library.specs.declared.endings.Ending.{Ending}
+use Rattle.am_library.specs.declared.endings.Ending.TheVariants as End
 use Rattle.am_library.specs.Views.{requests_run, requests_sent}
 
 -- the words of the request that a call asks for
@@ -53,6 +57,31 @@ is_lost fate = false
 -- the words of the accepted requests whose fate passes, in order
 abbrev pub words_fated : (Option Fate → Bool) → List Entry → List Words
 words_fated passes journal = map words_of (filter (λ (m : Message). passes (fate journal m.serial)) (requests_sent journal))
+
+-- the words of the requests that ended so, in order
+abbrev pub words_ended : Ending → List Entry → List Words
+words_ended End.Refused journal = words_refused journal
+words_ended End.Returned journal = words_fated is_back journal
+words_ended End.Unknown journal = words_fated is_lost journal
+
+-- ---- as it is read, entry by entry
+
+-- whether a message whose fate this is ended so
+abbrev pub is_ended : Ending → Option Fate → Bool
+is_ended End.Refused fate = false
+is_ended End.Returned fate = is_back fate
+is_ended End.Unknown fate = is_lost fate
+
+-- the words of a message, if it is a request and its fate passes
+abbrev pub words_if : (Option Fate → Bool) → List Entry → Option Message → Option Words
+words_if passes journal None = None
+words_if passes journal (Some m) = if is_request m && passes (fate journal m.serial) then Some m.words else None
+
+-- the words of the request that an entry asks for, if it ended so in this journal
+abbrev pub ended_in : List Entry → Ending → Entry → Option Words
+ended_in journal End.Refused x = refused_in x.event x.outcome
+ended_in journal End.Returned x = words_if is_back journal (accepted_of x)
+ended_in journal End.Unknown x = words_if is_lost journal (accepted_of x)
 
 -- EVERY REQUEST HAS ITS END. Whatever the words of a request weigh: what the script asks for weighs as much as what ran, what was refused
 -- when it was asked for, what came back, and what is unknown and did not run. With the weight 1 for words that pass, and 0 for others,

@@ -1,6 +1,7 @@
 -- What a library may rely on, in its words.
-use Rattle.std.specs.Prelude.{◌≡◌, ℕ, ◌%◌, ◌^◌, ◌≤◌, ◌⊎◌, Bool, true, false, ◌||◌, not, Some, None, List, [], ◌∷◌, count_by, filter, filter_map, length, sum_by}
-use Rattle.std.specs.List.{Contains, list_all}
+use Rattle.std.specs.Prelude.{◌≡◌, ℕ, ◌%◌, ◌^◌, ◌≤◌, ◌⊎◌, Bool, true, false, ◌||◌, not, Some, None, List, [], ◌∷◌, count_by, filter, filter_map, length}
+use Rattle.std.specs.Prelude.{sum_by, ◌&&◌}
+use Rattle.std.specs.List.{Contains, list_all, list_any}
 use Rattle.am_names.specs.Rules.{is_transient}
 use Rattle.am_names.specs.declared.Cause.{Cause}
 use Rattle.am_names.specs.declared.EndpointId.{EndpointId}
@@ -15,7 +16,9 @@ use Rattle.am_office_entries.specs.declared.Entry.{Entry}
 use Rattle.am_office_entries.specs.declared.endings.Fate.TheVariants as Fates
 use Rattle.am_office_entries.specs.Entries.{accepted_of}
 use Rattle.am_office_entries.specs.Fates.{fate}
+use Rattle.am_model.specs.History.{state_of}
 use Rattle.am_model.specs.PostOffice.{WasAccepted, is_about}
+use Rattle.am_model_scripts.specs.Layout.{layout_of}
 use Rattle.am_scenario_types.specs.declared.parts.ScriptCall.{ScriptCall}
 use Rattle.am_scenario_types.specs.Lists.{ScenarioLists}
 use Rattle.am_laws_runs.specs.Turns.Endings.{WithholdsNothing}
@@ -162,6 +165,24 @@ WholeSums =
 -- every request that the script asks for has its end
 abbrev pub EachRequestHasItsEnd : Type 0
 EachRequestHasItsEnd = (s : ScenarioLists) (journal : List Entry) → IsRun s journal → AddUp s.script journal
+
+-- a request ran only where the script sets a handler
+abbrev pub is_handler : Call → Bool
+is_handler (Calls.SetHandler index kind) = true
+is_handler call = false
+
+abbrev pub sets_handler : EndpointId → ScriptCall → Bool
+sets_handler e made = same_end e made.endpoint && is_handler made.call
+
+abbrev pub RunsWhereHandlersAre : Type 0
+RunsWhereHandlersAre =
+    (s : ScenarioLists) (journal : List Entry) (m : Message) → IsRun s journal → Contains (requests_run journal) m →
+    list_any (sets_handler m.dest) s.script ≡ true
+
+-- the sum that is read off the journal is the one that the endpoint has then
+abbrev pub SumsAreTheEndpoints : Type 0
+SumsAreTheEndpoints =
+    (s : ScenarioLists) (journal : List Entry) (e : EndpointId) → IsRun s journal → sum_at journal e ≡ (state_of (layout_of s) journal e).body.sum
 
 -- what ran has the words of a request that the script asks for
 abbrev pub WhatRanWasAskedFor : Type 0

@@ -1,9 +1,9 @@
 //! The laws of delivery, in a library's words. Each is so of every run of a lawful scenario, whatever the schedule and the plan: a library
 //! cites it by calling it. That what an endpoint ran comes in an order that somebody gave is no law.
 
-ghost use Rattle.am_library.specs.Laws.{AllRunWhereTheyLead, EachAskedHasItsEnd, EachReplyHasItsEnd, EachRequestHasItsEnd, EachRunHasOneReply, EchoesAreWords};
-ghost use Rattle.am_library.specs.Laws.{NothingIsLost, RunsAtMostOnce, SumsAreOfRuns, TheUnknownDidNotRun};
-ghost use Rattle.am_library.specs.Laws.{WhatCameBackNeverRan, WhatRanWasAskedFor, WholeSums};
+ghost use Rattle.am_library.specs.Laws.{AllRunWhereTheyLead, EachAskedHasItsEnd, EachReplyHasItsEnd, EachRequestHasItsEnd, EachRunHasOneReply};
+ghost use Rattle.am_library.specs.Laws.{EchoesAreWords, NothingIsLost, RunsAtMostOnce, RunsWhereHandlersAre, SumsAreOfRuns, SumsAreTheEndpoints};
+ghost use Rattle.am_library.specs.Laws.{TheUnknownDidNotRun, WhatCameBackNeverRan, WhatRanWasAskedFor, WholeSums};
 
 /// A request ran at most once. Example: a library that draws money at each run of a request draws it once, though a link sends each
 /// packet twice.
@@ -44,6 +44,18 @@ pub fn sums_are_of_runs()
 /// Example: a library counts the runs, and then the sum is whole.
 pub fn whole_sums()
     ensures { WholeSums }
+{}
+
+/// The sum that is read off a journal is the one that the endpoint has in the machine's definition. Example: `sum_at` of a server is what
+/// its next reply would add to.
+pub fn sums_are_the_endpoints()
+    ensures { SumsAreTheEndpoints }
+{}
+
+/// A request runs only at an endpoint where the script sets a handler. Example: where it sets none but the server's, all that ran, ran at
+/// the server, and the server's sum is that of all that ran.
+pub fn runs_where_handlers_are()
+    ensures { RunsWhereHandlersAre }
 {}
 
 /// Every request that the script asks for has its end: its call was refused, or its message ran, came back or is unknown. Whatever the

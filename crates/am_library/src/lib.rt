@@ -4,6 +4,8 @@
 
 mod account;
 mod draft;
+mod endings;
+mod faults;
 pub mod laws;
 mod runner;
 mod runs;
@@ -11,6 +13,8 @@ mod sums;
 
 pub use account::Account;
 pub use draft::{Draft, DraftFault, Setting};
+pub use endings::Ending;
+pub use faults::RoundFault;
 pub use runner::{AtOnce, BySeed, DrainAlone, Finished, RunFault, RunJournal, Runner};
 pub use runs::runs_at;
 pub use sums::sum_at;

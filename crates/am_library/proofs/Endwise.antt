@@ -1,0 +1,87 @@
+-- The words of the requests of a journal by their ends, read entry by entry.
+use Rattle.std.proofs.Common.{◌≡◌, ℕ, ◌+◌, ◌<◌, Bool, true, false, ◌&&◌, Option, Some, None, List, [], ◌∷◌, ◌++◌, refl, sym, ap, ◌∙◌, map, filter_map}
+use Rattle.std.proofs.Common.{subst, ◌≤◌, length, take, take_all, get_or, option_to_list, if◌then◌else◌, arith}
+use Rattle.std.specs.Borrow.{Bor}
+use Rattle.std.specs.Prelude.{filter}
+use Rattle.std.specs.List.{cons_option}
+use Rattle.std.proofs.lemmas.List.Elements.{filter_map-append}
+use Rattle.am_names.specs.declared.Message.{Message}
+use Rattle.am_names.specs.declared.Words.{Words}
+use Rattle.am_names.specs.Names.{is_request}
+use Rattle.am_office_entries.specs.declared.Entry.{Entry}
+use Rattle.am_office_entries.specs.declared.endings.Fate.{Fate}
+use Rattle.am_office_entries.specs.Entries.{accepted_of}
+use Rattle.am_office_entries.specs.Fates.{fate}
+use Rattle.am_office_entries.specs.Logged.Behind.{entries_behind}
+use Rattle.am_office_entries.proofs.Entries.{behind_next, length_behind}
+use Rattle.am_library.specs.declared.account.Account.{Account}
+use Rattle.am_library.specs.declared.endings.Ending.{Ending}
+use Rattle.am_library.specs.declared.endings.Ending.TheVariants as End
+use Rattle.am_library.specs.Accounts.{IsAccountOf}
+use Rattle.am_library.specs.Ends.{ended_in, is_back, is_lost, words_ended, words_fated, words_if, words_of}
+use Rattle.am_library.specs.Views.{requests_sent}
+
+-- the accepted requests whose fate passes, entry by entry
+one_fated : (passes : Option Fate → Bool) (whole : List Entry) (o : Option Message) (ms : List Message) →
+    cons_option (words_if passes whole o) (map words_of (filter (λ (m : Message). passes (fate whole m.serial)) (filter is_request ms)))
+    ≡ map words_of (filter (λ (m : Message). passes (fate whole m.serial)) (filter is_request (cons_option o ms)))
+one_fated passes whole None ms = refl
+one_fated passes whole (Some m) ms = by_tests (is_request m) (passes (fate whole m.serial)) refl refl
+  where
+    kept : List Message → List Message
+    kept ns = filter (λ (n : Message). passes (fate whole n.serial)) ns
+
+    by_tests : (a b : Bool) → is_request m ≡ a → passes (fate whole m.serial) ≡ b →
+        cons_option (if is_request m && passes (fate whole m.serial) then Some m.words else None) (map words_of (kept (filter is_request ms)))
+        ≡ map words_of (kept (filter is_request (m ∷ ms)))
+    by_tests true true request passed =
+        (λ i. cons_option (if request i && passed i then Some m.words else None) (map words_of (kept (filter is_request ms))))
+        ∙ sym
+        (ap (λ (a : Bool). map words_of (kept (if a then m ∷ filter is_request ms else filter is_request ms))) request
+        ∙ ap (λ (b : Bool). map words_of (if b then m ∷ kept (filter is_request ms) else kept (filter is_request ms))) passed)
+    by_tests true false request passed =
+        (λ i. cons_option (if request i && passed i then Some m.words else None) (map words_of (kept (filter is_request ms))))
+        ∙ sym
+        (ap (λ (a : Bool). map words_of (kept (if a then m ∷ filter is_request ms else filter is_request ms))) request
+        ∙ ap (λ (b : Bool). map words_of (if b then m ∷ kept (filter is_request ms) else kept (filter is_request ms))) passed)
+    by_tests false b request passed =
+        (λ i. cons_option (if request i && passed i then Some m.words else None) (map words_of (kept (filter is_request ms))))
+        ∙ sym (ap (λ (a : Bool). map words_of (kept (if a then m ∷ filter is_request ms else filter is_request ms))) request)
+
+all_fated : (passes : Option Fate → Bool) (whole journal : List Entry) →
+    filter_map (λ (x : Entry). words_if passes whole (accepted_of x)) journal
+    ≡ map words_of (filter (λ (m : Message). passes (fate whole m.serial)) (requests_sent journal))
+all_fated passes whole [] = refl
+all_fated passes whole (x ∷ journal) =
+    ap (cons_option (words_if passes whole (accepted_of x))) (all_fated passes whole journal)
+    ∙ one_fated passes whole (accepted_of x) (filter_map accepted_of journal)
+
+pub ended_all : (journal : List Entry) (ending : Ending) → filter_map (ended_in journal ending) journal ≡ words_ended ending journal
+ended_all journal End.Refused = refl
+ended_all journal End.Returned = all_fated is_back journal journal
+ended_all journal End.Unknown = all_fated is_lost journal journal
+
+pub ended_next : (whole : List Entry) (ending : Ending) (xs : List (Bor Entry)) (i : ℕ) (d : Bor Entry) (o : Option Words) (words new : List Words) → i < length xs →
+    words ≡ filter_map (ended_in whole ending) (take i (entries_behind xs)) → o ≡ ended_in whole ending (get_or xs i d).now →
+    new ≡ words ++ option_to_list o → new ≡ filter_map (ended_in whole ending) (take (i + 1) (entries_behind xs))
+ended_next whole ending xs i d o words new below so_far here push =
+    push
+    ∙ (λ j. so_far j ++ option_to_list (here j))
+    ∙ ap (λ (l : List Words). filter_map (ended_in whole ending) (take i (entries_behind xs)) ++ l) (listed (ended_in whole ending (get_or xs i d).now))
+    ∙ sym
+    (ap (filter_map (ended_in whole ending)) (behind_next xs i d below)
+    ∙ filter_map-append (ended_in whole ending) (take i (entries_behind xs)) ((get_or xs i d).now ∷ []))
+  where
+    listed : (p : Option Words) → option_to_list p ≡ cons_option p []
+    listed None = refl
+    listed (Some w) = refl
+
+pub ended_done : (journal : List Entry) (ending : Ending) (account : Account) (xs : List (Bor Entry)) (i : ℕ) (words : List Words) →
+    entries_behind xs ≡ journal → length xs ≤ i →
+    (IsAccountOf (entries_behind xs) account → words ≡ filter_map (ended_in (entries_behind xs) ending) (take i (entries_behind xs))) →
+    IsAccountOf journal account → words ≡ words_ended ending journal
+ended_done journal ending account xs i words behind all so_far are =
+    so_far (subst (λ (l : List Entry). IsAccountOf l account) (sym behind) are)
+    ∙ ap (filter_map (ended_in (entries_behind xs) ending)) (take_all i (entries_behind xs) (omega (arith, length_behind xs, all)))
+    ∙ ended_all (entries_behind xs) ending
+    ∙ ap (words_ended ending) behind
