@@ -36,7 +36,7 @@ use Rattle.am_library.proofs.Adding.{is_sum_of_runs}
 use Rattle.am_library.proofs.Distinct.{count_role, found_in, has_at, runs_once}
 use Rattle.am_library.proofs.Echoing as echoed
 use Rattle.am_library.proofs.Ended.{add_up}
-use Rattle.am_library.proofs.Endings.{back_is, gone, lost_is, of_words, one_of_four, unheard}
+use Rattle.am_library.proofs.EndKinds.{back_is, gone, lost_is, of_words, one_of_four, unheard}
 use Rattle.am_library.proofs.Leading.{runs_lead}
 use Rattle.am_library.proofs.Replied.{has_one_reply, kept_among}
 use Rattle.am_library.proofs.Handled as handled

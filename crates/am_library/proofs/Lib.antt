@@ -15,5 +15,5 @@ pub mod Running
 pub mod Scripted
 pub mod Leading
 pub mod Echoing
-pub mod Endings
+pub mod EndKinds
 pub mod Lawful
