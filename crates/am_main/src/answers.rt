@@ -8,12 +8,11 @@ ghost use Rattle.am_session.specs.Grammar as sessions;
 ghost use Rattle.am_session.specs.Meaning.{SessionMeans};
 
 use crate::commands::Command;
-use am_main_step::check_output;
 use am_main_lines::Output;
 use am_main_run::counts::count_output;
 use am_main_run::segments::segments_output;
 use am_main_run::{make_output, run_output};
-use am_main_step::step_output;
+use am_main_step::{check_output, step_output};
 use am_session::{SessionOutput, session_output};
 use std::alloc::{AllocError, Global};
 use std::thread::Threads;
