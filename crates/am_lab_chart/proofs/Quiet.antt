@@ -17,7 +17,7 @@ use Rattle.am_lab_picture.specs.Layout.Words.{class_of, fate_class, fate_sign, f
 use Rattle.am_lab_chart.specs.Captions.{sign_at}
 use Rattle.am_lab_picture.specs.Layout.Signs.{ending_sign, inner_of, label_of, sign_of, spot_of}
 use Rattle.am_lab_chart.specs.Bars.{bar, frame_caption, frame_part, has_room, lane_bars, level_width, received, records, stretch}
-use Rattle.am_lab_chart.specs.Ways.{arc, arrow, cross, is_own, straight}
+use Rattle.am_lab_chart.specs.Ways.{arc, drawn_arrow, drawn_cross, is_own, straight}
 use Rattle.am_lab_chart.specs.Rows.{fate_of, fate_x, inner, inner_text, label, label_at, label_text, labelled, line_number, line_text, link, link_line, mark}
 use Rattle.am_lab_chart.specs.Rows.{row_at, row_head, row_of, texts_of, title, x_of}
 use Rattle.am_lab_chart.specs.Lanes.{band, end_head, interface, interface_lane, nodes}
@@ -78,11 +78,11 @@ arc_way : (p : PictureLists) (left : ℕ) (a : Arrow) → Has [] (arc p left a)
 unfolding arc
 arc_way p left a = record { sound = refl; plain = refl; titles' = refl }
 
-way : (p : PictureLists) (left : ℕ) (a : Arrow) → Has [] (arrow p left a)
+way : (p : PictureLists) (left : ℕ) (a : Arrow) → Has [] (drawn_arrow p left a)
 way p left a = choice (is_own a.packet) (arc p left a) (straight p left a) (arc_way p left a) (straight_way p left a)
 
-lost : (p : PictureLists) (left : ℕ) (c : Cross) → Has [] (cross p left c)
-unfolding cross
+lost : (p : PictureLists) (left : ℕ) (c : Cross) → Has [] (drawn_cross p left c)
+unfolding drawn_cross
 lost p left c = record { sound = refl; plain = refl; titles' = refl }
 
 -- ---- rows
@@ -229,8 +229,8 @@ lanes_have p left =
 entries_have : (p : PictureLists) (left : ℕ) → Has (map (λ (row : Row). printed row.entry) p.rows) (entries_of p left)
 unfolding entries_of
 entries_have p left =
-    both _ _ (each_has (arrow p left) (way p left) p.arrows)
-    (both _ _ (each_has (cross p left) (lost p left) p.crosses) (numbered_has (row_of p left) (λ (row : Row). printed row.entry) (row_has p left) p.first
+    both _ _ (each_has (drawn_arrow p left) (way p left) p.arrows)
+    (both _ _ (each_has (drawn_cross p left) (lost p left) p.crosses) (numbered_has (row_of p left) (λ (row : Row). printed row.entry) (row_has p left) p.first
     p.rows))
 
 inside_has : (p : PictureLists) (left : ℕ) → Has (map (λ (row : Row). printed row.entry) p.rows) (inside p left)

@@ -12,7 +12,7 @@ use Rattle.am_lab_chart.specs.Captions.{number, word}
 use Rattle.am_lab_chart.specs.Legends.{arrow_head, meaning, shape, style}
 use Rattle.am_lab_chart.specs.Lanes.{end_head, nodes}
 use Rattle.am_lab_chart.specs.Bars.{lane_bars}
-use Rattle.am_lab_chart.specs.Ways.{arrow, cross, path}
+use Rattle.am_lab_chart.specs.Ways.{drawn_arrow, drawn_cross, path}
 use Rattle.am_lab_chart.specs.Rows.{row_of}
 
 -- signs are small, and lines thin, where rows have no text
@@ -58,7 +58,7 @@ lanes_of p left =
 -- the ways of the packets, and the rows of the entries
 unfoldable pub entries_of : PictureLists → ℕ → Content
 entries_of p left =
-    Contents.Both (each (arrow p left) p.arrows) (Contents.Both (each (cross p left) p.crosses) (numbered (row_of p left) p.first p.rows))
+    Contents.Both (each (drawn_arrow p left) p.arrows) (Contents.Both (each (drawn_cross p left) p.crosses) (numbered (row_of p left) p.first p.rows))
 
 unfoldable pub inside : PictureLists → ℕ → Content
 inside p left =

@@ -54,16 +54,16 @@ arc p left a =
 abbrev pub is_own : Packet → Bool
 is_own packet = (from_of packet).0 == (receiver_of packet).0
 
-abbrev pub arrow : PictureLists → ℕ → Arrow → Content
-arrow p left a = if is_own a.packet then arc p left a else straight p left a
+abbrev pub drawn_arrow : PictureLists → ℕ → Arrow → Content
+drawn_arrow p left a = if is_own a.packet then arc p left a else straight p left a
 
 -- the sign of a packet that is never received leans towards its receiver
 abbrev pub lost_sign : Bool → List ℕ
 lost_sign true = codes "#lost-left"
 lost_sign false = codes "#lost-right"
 
-unfoldable pub cross : PictureLists → ℕ → Cross → Content
-cross p left c =
+unfoldable pub drawn_cross : PictureLists → ℕ → Cross → Content
+drawn_cross p left c =
     Contents.Empty (codes "use")
     (word (codes "href") (lost_sign (nat_lt (end_x p left c.packet) (begin_x p left c.packet))) ∷
     number (codes "x") (begin_x p left c.packet) ∷ number (codes "y") (y_of p c.line) ∷

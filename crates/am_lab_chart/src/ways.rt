@@ -122,7 +122,7 @@ fn put_arrow(
 ) -> Result<(), AllocError>
     requires drawable { IsDrawable picture.now }
     requires narrow { left ≤ 4000 }
-    ensures { OnOk result (out.new.items ≡ out.old.items ++ printed (ways.arrow picture.now left arrow)) }
+    ensures { OnOk result (out.new.items ≡ out.old.items ++ printed (ways.drawn_arrow picture.now left arrow)) }
 {
     if from_of(arrow.packet).0 == receiver_of(arrow.packet).0 {
         put_arc(out, picture, left, arrow)
@@ -140,7 +140,7 @@ pub(crate) fn put_arrows(
 ) -> Result<(), AllocError>
     requires drawable { IsDrawable picture.now }
     requires narrow { left ≤ 4000 }
-    ensures { OnOk result (out.new.items ≡ out.old.items ++ printed (each (ways.arrow picture.now left) arrows.now)) }
+    ensures { OnOk result (out.new.items ≡ out.old.items ++ printed (each (ways.drawn_arrow picture.now left) arrows.now)) }
 {
     for arrow in arrows {
         put_arrow(out, picture, left, *arrow)?;
@@ -158,7 +158,7 @@ fn lost_sign(leftwards: bool) -> &'static str
     }
 }
 
-#[tactic(auto, unfolding(crate::specs::Ways::cross))]
+#[tactic(auto, unfolding(crate::specs::Ways::drawn_cross))]
 fn put_cross(
     out: &mut Vec<u8>,
     picture: &Picture,
@@ -167,7 +167,7 @@ fn put_cross(
 ) -> Result<(), AllocError>
     requires drawable { IsDrawable picture.now }
     requires narrow { left ≤ 4000 }
-    ensures { OnOk result (out.new.items ≡ out.old.items ++ printed (ways.cross picture.now left cross)) }
+    ensures { OnOk result (out.new.items ≡ out.old.items ++ printed (ways.drawn_cross picture.now left cross)) }
 {
     let x = begin_x(picture, left, cross.packet);
     let sign = lost_sign(end_x(picture, left, cross.packet) < x);
@@ -193,7 +193,7 @@ pub(crate) fn put_crosses(
 ) -> Result<(), AllocError>
     requires drawable { IsDrawable picture.now }
     requires narrow { left ≤ 4000 }
-    ensures { OnOk result (out.new.items ≡ out.old.items ++ printed (each (ways.cross picture.now left) crosses.now)) }
+    ensures { OnOk result (out.new.items ≡ out.old.items ++ printed (each (ways.drawn_cross picture.now left) crosses.now)) }
 {
     for cross in crosses {
         put_cross(out, picture, left, *cross)?;

@@ -4,7 +4,7 @@ use Rattle.std.specs.Prelude.{slice_get}
 use Rattle.std.proofs.lemmas.List.FromFn.{get_or-map-range_with_len, length-map-range_with_len}
 use Rattle.std.proofs.lemmas.Option.{slice_get-get_or, slice_get_past}
 use Rattle.am_job.specs.Rounds.{round_at, round_count, rounds_of}
-use Rattle.am_lab_scenarios.specs.Derived.Answers.{PrintsRound, PrintsScenario, RoundAnswers, RoundOrNone, no_round, numbered, text_too_long}
+use Rattle.am_lab_scenarios.specs.Derived.Answers.{PrintsRound, PrintsScenario, RoundAnswers, RoundOrNone, no_round, with_number, text_too_long}
 use Rattle.am_main_lines.specs.Lines.{Answer}
 use Rattle.am_scenario_types.specs.Lists.{ScenarioLists}
 use Rattle.am_job.specs.declared.words.codes.CodedWord.{CodedWord}
@@ -21,7 +21,7 @@ round_is w turns sent k below =
     slice_get-get_or (rounds_of w turns sent) k here (omega (arith, count))
     ∙ ap Some (get_or-map-range_with_len (round_at w turns sent) 0 (round_count w (length sent)) k k here below (zero-add k))
 
-numbered_past : (w turns number : ℕ) (sent : List CodedWord) → round_count w (length sent) < number → numbered number (rounds_of w turns sent) ≡ None
+numbered_past : (w turns number : ℕ) (sent : List CodedWord) → round_count w (length sent) < number → with_number number (rounds_of w turns sent) ≡ None
 numbered_past w turns zero sent past = refl
 numbered_past w turns (suc k) sent past = let count = count_is w turns sent in slice_get_past (rounds_of w turns sent) k (omega (arith, past, count))
 
@@ -33,7 +33,7 @@ round_is_printed w turns number place sent round answer below is made prints =
     let found = λ (round : Option ScenarioLists). RoundOrNone (suc place) (length (rounds_of w turns sent)) round answer in
     subst (λ (n : ℕ). PrintsRound n (rounds_of w turns sent) answer) same (subst found (sym (round_is w turns sent place below)) here)
 
-missing : (w turns number count : ℕ) (sent : List CodedWord) (answer : Answer) → numbered number (rounds_of w turns sent) ≡ None →
+missing : (w turns number count : ℕ) (sent : List CodedWord) (answer : Answer) → with_number number (rounds_of w turns sent) ≡ None →
     count ≡ round_count w (length sent) → answer ≡ no_round number count → PrintsRound number (rounds_of w turns sent) answer
 missing w turns number count sent answer none is told =
     let same : count ≡ length (rounds_of w turns sent) = is ∙ sym (count_is w turns sent) in
@@ -43,7 +43,7 @@ missing w turns number count sent answer none is told =
 pub round_is_missing : (w turns number count : ℕ) (sent : List CodedWord) (answer : Answer) → (number ≡ 0) ⊎ (count < number) →
     count ≡ round_count w (length sent) → answer ≡ no_round number count → PrintsRound number (rounds_of w turns sent) answer
 round_is_missing w turns number count sent answer (inl zero') is told =
-    missing w turns number count sent answer (ap (λ (n : ℕ). numbered n (rounds_of w turns sent)) zero') is told
+    missing w turns number count sent answer (ap (λ (n : ℕ). with_number n (rounds_of w turns sent)) zero') is told
 round_is_missing w turns number count sent answer (inr past) is told =
     missing w turns number count sent answer (numbered_past w turns number sent (omega (arith, past, is))) is told
 

@@ -8,7 +8,7 @@ use Rattle.am_job.specs.Count.Counting.{IsRound, PrintsCount}
 use Rattle.am_main_run.specs.Counts.Cluster.Rounds.{IsRoundRun}
 use Rattle.am_job.specs.Rounds.{round_at, rounds_of}
 use Rattle.am_lab_scenarios.proofs.Rounds.{round_is}
-use Rattle.am_lab_scenarios.specs.Derived.Answers.{PrintsScenario, numbered}
+use Rattle.am_lab_scenarios.specs.Derived.Answers.{PrintsScenario, with_number}
 use Rattle.am_scenario_generator.specs.Scenarios.{generated}
 use Rattle.am_lab_scenarios.specs.DerivedLaws.Laws.{BeginsWithRun, CountsAreRun, CutCountsAreRun, IsCountedRun, IsCutRun, MakesAreRun, RunMayTell, SegmentsAreRun}
 use Rattle.am_lab_scenarios.specs.DerivedLaws.Laws.{TellOneRun, cut_off, reported}
@@ -105,8 +105,8 @@ at_place R (a ∷ xs) (b ∷ ys) zero x all is =
     (b, refl, subst (λ z. R z b) same all.0)
 at_place R (a ∷ xs) (b ∷ ys) (suc k) x all is = at_place R xs ys k x all.1 is
 
-at_number : {A B : Type 0} (R : A → B → Type 0) (xs : List A) (ys : List B) (number : ℕ) (x : A) → AllZip R xs ys → numbered number xs ≡ Some x →
-    (y : B) × (numbered number ys ≡ Some y) × R x y
+at_number : {A B : Type 0} (R : A → B → Type 0) (xs : List A) (ys : List B) (number : ℕ) (x : A) → AllZip R xs ys → with_number number xs ≡ Some x →
+    (y : B) × (with_number number ys ≡ Some y) × R x y
 at_number R xs ys zero x all is = absurd (cc)
 at_number R xs ys (suc k) x all is = at_place R xs ys k x all is
 
@@ -114,7 +114,7 @@ round_run : (s : ScenarioLists) (journal : List Entry) → IsRoundRun s journal 
 round_run s journal run = is_run_of s journal run.done run.whole run.obeys
 
 counts_are_run : (nodes turns number : ℕ) (bytes text : List ℕ) (counts : PrintsCount IsRoundRun nodes turns bytes text) (round : ScenarioLists)
-    (printed : Answer) → numbered number (rounds_of nodes turns (sent_words bytes)) ≡ Some round → PrintsScenario round printed →
+    (printed : Answer) → with_number number (rounds_of nodes turns (sent_words bytes)) ≡ Some round → PrintsScenario round printed →
     IsCountedRun number round counts.journals printed
 counts_are_run nodes turns number bytes text counts round printed is prints =
     let found = at_number (IsRound IsRoundRun) (rounds_of nodes turns (sent_words bytes)) counts.journals number round counts.rounds is in

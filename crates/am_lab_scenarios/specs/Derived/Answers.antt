@@ -31,9 +31,9 @@ FaultsAnswers seed percent (Ok s) answer = PrintsScenario (with_drawn_plan seed 
 FaultsAnswers seed percent (Err fault) answer = answer ≡ refusal fault
 
 -- the one of a list that has this number, counted from 1, if there is one
-abbrev pub numbered : {A : Type 0} → ℕ → List A → Option A
-numbered zero xs = None
-numbered (suc before) xs = slice_get xs before
+abbrev pub with_number : {A : Type 0} → ℕ → List A → Option A
+with_number zero xs = None
+with_number (suc before) xs = slice_get xs before
 
 -- `no round N of C`
 abbrev pub no_round : ℕ → ℕ → Answer
@@ -46,7 +46,7 @@ RoundOrNone number count None answer = answer ≡ no_round number count
 
 -- the answer to a number, where these are the rounds
 abbrev pub PrintsRound : ℕ → List ScenarioLists → Answer → Type 0
-PrintsRound number rounds answer = RoundOrNone number (length rounds) (numbered number rounds) answer
+PrintsRound number rounds answer = RoundOrNone number (length rounds) (with_number number rounds) answer
 
 -- a text that is too long to be counted
 abbrev pub text_too_long : Answer

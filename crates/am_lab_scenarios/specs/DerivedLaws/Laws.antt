@@ -3,7 +3,7 @@ use Rattle.std.specs.Prelude.{◌≡◌, ◌⊎◌, ℕ, List, ◌++◌, Some}
 use Rattle.am_job.specs.Count.Counting.{PrintsCount}
 use Rattle.am_main_run.specs.Counts.Cluster.Rounds.{IsRoundRun}
 use Rattle.am_job.specs.Rounds.{rounds_of}
-use Rattle.am_lab_scenarios.specs.Derived.Answers.{PrintsScenario, numbered}
+use Rattle.am_lab_scenarios.specs.Derived.Answers.{PrintsScenario, with_number}
 use Rattle.am_scenario_generator.specs.Scenarios.{generated}
 use Rattle.am_main_run.specs.Counts.Counts.{CutsCount}
 use Rattle.am_main_lines.specs.Lines.{Answer, full_line, ids_of}
@@ -61,18 +61,18 @@ SegmentsAreRun = (s : SegmentScenario) (printed told : Answer) → PrintsScenari
 -- the journal that was counted of this round is one that `run` may report
 pub record IsCountedRun (number : ℕ) (round : ScenarioLists) (journals : List (List Entry)) (printed : Answer) : Type 0 where
   pub journal : List Entry
-  pub counted : numbered number journals ≡ Some journal
+  pub counted : with_number number journals ≡ Some journal
   pub runs : RunMayTell printed.text (reported round journal)
 
 abbrev pub CountsAreRun : Type 0
 CountsAreRun =
-    (nodes turns number : ℕ) (bytes text : List ℕ) (counts : PrintsCount IsRoundRun nodes turns bytes text) (round : ScenarioLists) (printed : Answer) → numbered number (rounds_of nodes turns (sent_words bytes)) ≡ Some round → PrintsScenario round printed → IsCountedRun number round counts.journals printed
+    (nodes turns number : ℕ) (bytes text : List ℕ) (counts : PrintsCount IsRoundRun nodes turns bytes text) (round : ScenarioLists) (printed : Answer) → with_number number (rounds_of nodes turns (sent_words bytes)) ≡ Some round → PrintsScenario round printed → IsCountedRun number round counts.journals printed
 
 -- a count that ended at a full log prints what `run` may print of the text of one of its rounds
 pub record IsCutRun (nodes turns : ℕ) (bytes text : List ℕ) : Type 0 where
   pub number : ℕ
   pub round : ScenarioLists
-  pub is : numbered number (rounds_of nodes turns (sent_words bytes)) ≡ Some round
+  pub is : with_number number (rounds_of nodes turns (sent_words bytes)) ≡ Some round
   pub runs : (printed : Answer) → PrintsScenario round printed → RunMayTell printed.text (record { status = 6; text = text })
 
 abbrev pub CutCountsAreRun : Type 0

@@ -14,7 +14,7 @@ IsReadBack Run s = Spells Run (scenario_text s) s
 IsReadBack Step s = Spells Step (scenario_text s) (as_printed s)
 
 -- the text spells a scenario, and this is printed; printed again the text is the same
-pub record PrintsScenario (form : Form) (bytes : List ℕ) (answer : Answer) : Type 0 where
+pub record PrintsSpelled (form : Form) (bytes : List ℕ) (answer : Answer) : Type 0 where
   pub scenario : ScenarioLists
   pub spelled : Spells form bytes scenario
   pub answer' : answer ≡ record { status = 0; text = scenario_text scenario }
@@ -29,4 +29,4 @@ pub record RefusesScenario (form : Form) (bytes : List ℕ) (answer : Answer) : 
 
 -- THE HEADLINE, for `scenario`: the scenario that the text spells is printed, or the text's first fault is told.
 abbrev pub ScenarioAnswers : Form → List ℕ → Answer → Type 0
-ScenarioAnswers form bytes answer = PrintsScenario form bytes answer ⊎ RefusesScenario form bytes answer
+ScenarioAnswers form bytes answer = PrintsSpelled form bytes answer ⊎ RefusesScenario form bytes answer
