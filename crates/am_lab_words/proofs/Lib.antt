@@ -1,1 +1,2 @@
 mod LineWords
+mod InRange

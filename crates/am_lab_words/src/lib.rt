@@ -1,5 +1,5 @@
 //! The words of the program `am2_lab`. What they ask for is read here, by a definition; clap tells the help, the version, and
-//! what is wrong with words that ask for nothing. Each command has a file of its own with the words that it takes.
+//! what is wrong with words that ask for nothing.
 #![tactic(auto)]
 
 ghost use Rattle.am_lab_words.specs.Ranges.{IsInRange};
@@ -8,53 +8,36 @@ ghost use Rattle.am_lab_words.specs.declared.mistakes.Wrong.{Wrong as Mistake};
 ghost use Rattle.std.specs.Prelude.{◌≡◌, Err, IfErr, IfOk, Ok, drop, map, string_bytes};
 
 mod beginnings;
-mod chart;
-mod derived;
-mod explain;
 mod faults;
 mod find;
 mod forms;
-mod json;
 mod mistakes;
 mod numbers;
 mod ranges;
 mod reading;
-mod replay;
-mod scenario;
-mod schedule;
+mod shown;
 mod shrink;
 mod state;
-mod why;
 
 pub use crate::beginnings::line_words;
-use crate::chart::chart_words;
-use crate::explain::explain_words;
-use crate::faults::faults_words;
-use crate::find::find_words;
-use crate::json::json_words;
 pub use crate::mistakes::Wrong;
 pub use crate::reading::asked_for;
-use crate::replay::replay_words;
-use crate::scenario::scenario_words;
-use crate::schedule::schedule_words;
-use crate::shrink::shrink_words;
-use crate::state::state_words;
-use crate::why::why_words;
+use crate::shown::{all_words, example_of, shown_of, words_of};
 use am_names::Serial;
 use am_scenario_types::Form;
+use clap::Error;
 use clap::error::ErrorKind;
-use clap::{Command, Error};
 use std::alloc::{AllocError, Global};
 
 /// Lines of a report from one to another, both among them, as the words have them.
-#[derive(Clone, Copy, PartialEq, Eq, Debug)]
+#[derive(Clone, Copy)]
 pub struct Lines {
     pub from: u32,
     pub to: u32,
 }
 
 /// Seeds from one up to another, which isn't among them.
-#[derive(Clone, Copy, PartialEq, Eq, Debug)]
+#[derive(Clone, Copy)]
 pub struct Seeds {
     pub from: u64,
     /// Above `from`, and at most 100,000 above it.
@@ -62,7 +45,7 @@ pub struct Seeds {
 }
 
 /// Which states of a journal the words have.
-#[derive(Clone, Copy, PartialEq, Eq, Debug)]
+#[derive(Clone, Copy)]
 pub enum States {
     /// The state at the journal's end.
     End,
@@ -73,7 +56,7 @@ pub enum States {
 }
 
 /// What the words ask for.
-#[derive(Clone, Copy, PartialEq, Eq, Debug)]
+#[derive(Clone, Copy)]
 pub enum Asked {
     /// `explain step`, `explain run`: what is wrong with a scenario of this form or with its report, and what was due there.
     Explain(Form),
@@ -137,34 +120,6 @@ pub enum Asked {
     ShrinkSeeded(u64),
 }
 
-const ABOUT_INPUT: &str = "cat examples/first.am2 examples/first.out | bin/am2_lab why step 0.1";
-
-const INPUT: &str =
-    "explain, why, chart, replay, json and state read a scenario and, behind it, its report from standard input; \
-    scenario, schedule, find, faults and shrink read a scenario alone:\n\n  \
-    cat examples/first.am2 examples/first.out | bin/am2_lab why step 0.1\n  \
-    bin/am2_lab scenario run < examples/run-withheld.am2";
-
-/// The words that the program takes.
-fn all_words<'a>(alloc: Global) -> Result<Command<'a>, AllocError> {
-    let command = Command::new(alloc, "am2_lab")
-        .about("Reads a scenario, alone or with its report behind it, and shows what is in it")
-        .after_help(INPUT)
-        .version("1")
-        .subcommand_required(true);
-    let command = command.subcommand(explain_words(alloc)?)?;
-    let command = command.subcommand(why_words(alloc)?)?;
-    let command = command.subcommand(chart_words(alloc)?)?;
-    let command = command.subcommand(scenario_words(alloc)?)?;
-    let command = command.subcommand(replay_words(alloc)?)?;
-    let command = command.subcommand(schedule_words(alloc)?)?;
-    let command = command.subcommand(json_words(alloc)?)?;
-    let command = command.subcommand(state_words(alloc)?)?;
-    let command = command.subcommand(find_words(alloc)?)?;
-    let command = command.subcommand(faults_words(alloc)?)?;
-    command.subcommand(shrink_words(alloc)?)
-}
-
 // A sentence, and behind it a line that asks for something.
 fn told(alloc: Global, sentence: &str, example: &str) -> Result<String, AllocError> {
     let mut text = String::from_str(alloc, sentence)?;
@@ -174,9 +129,10 @@ fn told(alloc: Global, sentence: &str, example: &str) -> Result<String, AllocErr
 }
 
 // What is wrong with words that clap lets pass, with the usage of their command.
-fn told_wrong(alloc: Global, wrong: Wrong) -> Result<Error, AllocError> {
-    let text = told(alloc, wrong.sentence(), wrong.example())?;
-    let mut command = wrong.words(alloc)?;
+fn told_wrong(alloc: Global, words: &[String], wrong: Wrong) -> Result<Error, AllocError> {
+    let shown = shown_of(words);
+    let text = told(alloc, wrong.sentence(), example_of(shown))?;
+    let mut command = words_of(alloc, shown)?;
     command.error(ErrorKind::ValueValidation, text.as_str())
 }
 
@@ -185,7 +141,7 @@ fn told_wrong(alloc: Global, wrong: Wrong) -> Result<Error, AllocError> {
 fn told_by_clap(alloc: Global, words: &[String], wrong: Wrong) -> Result<Error, AllocError> {
     let command = all_words(alloc)?;
     match command.try_get_matches_from(words) {
-        Ok(_) => told_wrong(alloc, wrong),
+        Ok(_) => told_wrong(alloc, words, wrong),
         Err(error) => Ok(error),
     }
 }
@@ -217,7 +173,7 @@ pub fn read_words(alloc: Global, words: &[String]) -> Result<Asked, Error>
 }
 
 fn no_text(alloc: Global) -> Result<Error, AllocError> {
-    let text = told(alloc, "a word is no text in UTF-8", ABOUT_INPUT)?;
+    let text = told(alloc, "a word is no text in UTF-8", example_of(None))?;
     let mut command = all_words(alloc)?;
     command.error(ErrorKind::ValueValidation, text.as_str())
 }

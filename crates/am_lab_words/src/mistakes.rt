@@ -1,20 +1,7 @@
 //! What is wrong with words that ask for nothing.
 
-use crate::chart::{CHART_EXAMPLE, chart_words};
-use crate::derived::{COUNT_EXAMPLE, MAKE_EXAMPLE, count_words, make_words};
-use crate::explain::{FRONT_EXAMPLE, explain_words};
-use crate::faults::{FAULTS_EXAMPLE, faults_words};
-use crate::find::{FIND_EXAMPLE, find_words};
-use crate::schedule::{SCHEDULE_EXAMPLE, schedule_words};
-use crate::shrink::{SHRINK_EXAMPLE, shrink_words};
-use crate::state::{STATE_EXAMPLE, state_words};
-use crate::why::{WHY_EXAMPLE, why_words};
-use crate::{ABOUT_INPUT, all_words};
-use clap::Command;
-use std::alloc::{AllocError, Global};
-
 /// What is wrong with words that ask for nothing.
-#[derive(Clone, Copy, PartialEq, Eq, Debug)]
+#[derive(Clone, Copy)]
 pub enum Wrong {
     /// They have none of the forms.
     Form,
@@ -62,7 +49,7 @@ impl Wrong {
     /// The sentence that tells it.
     pub(crate) fn sentence(self) -> &'static str {
         match self {
-            Wrong::Form => "the words have none of the forms that --help shows",
+            Wrong::Form => "the words have none of the forms that its usage shows",
             Wrong::Front => {
                 "--front stands behind explain step: a run has no step that can't happen"
             }
@@ -112,54 +99,6 @@ impl Wrong {
             Wrong::ShrinkLine => {
                 "WORDS are those that a line of the report begins with, none of them empty or with -- in front; --seed N stands in front of them"
             }
-        }
-    }
-
-    /// A line that asks for something in its place.
-    pub(crate) fn example(self) -> &'static str {
-        match self {
-            Wrong::Form => ABOUT_INPUT,
-            Wrong::Front => FRONT_EXAMPLE,
-            Wrong::Serial => WHY_EXAMPLE,
-            Wrong::HalfPart | Wrong::Line => CHART_EXAMPLE,
-            Wrong::Number => MAKE_EXAMPLE,
-            Wrong::Round => COUNT_EXAMPLE,
-            Wrong::Seed
-            | Wrong::ClosedRange
-            | Wrong::RangeOfWords
-            | Wrong::RangeWithoutStart
-            | Wrong::RangeWithoutEnd
-            | Wrong::EmptyRange
-            | Wrong::LongRange => SCHEDULE_EXAMPLE,
-            Wrong::StateLine => STATE_EXAMPLE,
-            Wrong::FindRange | Wrong::FindLine => FIND_EXAMPLE,
-            Wrong::Faults => FAULTS_EXAMPLE,
-            Wrong::ShrinkSeed | Wrong::ShrinkLine => SHRINK_EXAMPLE,
-        }
-    }
-
-    /// The words of the command that they are for, which shows its usage.
-    pub(crate) fn words<'a>(self, alloc: Global) -> Result<Command<'a>, AllocError> {
-        match self {
-            Wrong::Form => all_words(alloc),
-            Wrong::Front => explain_words(alloc)?.bin_name("am2_lab explain"),
-            Wrong::Serial => why_words(alloc)?.bin_name("am2_lab why"),
-            Wrong::HalfPart | Wrong::Line => chart_words(alloc)?.bin_name("am2_lab chart"),
-            Wrong::Number => make_words(alloc)?.bin_name("am2_lab scenario make"),
-            Wrong::Round => count_words(alloc)?.bin_name("am2_lab scenario count"),
-            Wrong::Seed
-            | Wrong::ClosedRange
-            | Wrong::RangeOfWords
-            | Wrong::RangeWithoutStart
-            | Wrong::RangeWithoutEnd
-            | Wrong::EmptyRange
-            | Wrong::LongRange => schedule_words(alloc)?.bin_name("am2_lab schedule"),
-            Wrong::StateLine => state_words(alloc)?.bin_name("am2_lab state"),
-            Wrong::FindRange | Wrong::FindLine => find_words(alloc)?.bin_name("am2_lab find"),
-            Wrong::Faults => faults_words(alloc)?.bin_name("am2_lab faults"),
-            Wrong::ShrinkSeed | Wrong::ShrinkLine => shrink_words(alloc)?.bin_name(
-                "am2_lab shrink",
-            ),
         }
     }
 }

@@ -1,8 +1,7 @@
 //! The seeds that a word of `schedule` names.
 
-ghost use Rattle.am_lab_words.specs.Ranges.{AreFewSeeds, IsInRange};
 ghost use Rattle.am_lab_words.specs.Words.{is_closed, numbers_of, points_of, range_of, schedule_of, seeds_in, seeds_of};
-ghost use Rattle.std.specs.Prelude.{◌≡◌, IfOk};
+ghost use Rattle.std.specs.Prelude.{◌≡◌};
 
 use crate::numbers::printed_number;
 use crate::{Asked, Seeds, Wrong};
@@ -11,8 +10,7 @@ use am_lexer::first_dot;
 // The seeds from one number up to another.
 #[tactic(auto, unfolding(crate::specs::Words::seeds_of))]
 fn seeds_of(from: u64, to: u64) -> Result<Seeds, Wrong>
-    ensures exact { result ≡ seeds_of from to }
-    ensures few { IfOk result AreFewSeeds }
+    ensures { result ≡ seeds_of from to }
 {
     if to <= from {
         Err(Wrong::EmptyRange)
@@ -25,8 +23,7 @@ fn seeds_of(from: u64, to: u64) -> Result<Seeds, Wrong>
 
 // The seeds between what two words spell.
 fn numbers_of(from: Option<u64>, to: Option<u64>) -> Result<Seeds, Wrong>
-    ensures exact { result ≡ numbers_of from to }
-    ensures few { IfOk result AreFewSeeds }
+    ensures { result ≡ numbers_of from to }
 {
     match (from, to) {
         (Some(from), Some(to)) => seeds_of(from, to),
@@ -43,8 +40,7 @@ fn is_closed(to: &[u8]) -> bool
 // The seeds of a range, by what stands before its two points and behind them.
 #[tactic(auto, unfolding(crate::specs::Words::range_of))]
 fn range_of(from: &[u8], to: &[u8]) -> Result<Seeds, Wrong>
-    ensures exact { result ≡ range_of from.now to.now }
-    ensures few { IfOk result AreFewSeeds }
+    ensures { result ≡ range_of from.now to.now }
 {
     match (from, to) {
         ([], _) => Err(Wrong::RangeWithoutStart),
@@ -62,8 +58,7 @@ fn range_of(from: &[u8], to: &[u8]) -> Result<Seeds, Wrong>
 // The seeds of a range, by what stands before its first point and behind it.
 #[tactic(auto, unfolding(crate::specs::Words::points_of))]
 fn points_of(from: &[u8], rest: &[u8]) -> Result<Seeds, Wrong>
-    ensures exact { result ≡ points_of from.now rest.now }
-    ensures few { IfOk result AreFewSeeds }
+    ensures { result ≡ points_of from.now rest.now }
 {
     match rest {
         [b'.', to @ ..] => range_of(from, to),
@@ -74,8 +69,7 @@ fn points_of(from: &[u8], rest: &[u8]) -> Result<Seeds, Wrong>
 /// The seeds of a range that a word names.
 #[tactic(auto, unfolding(crate::specs::Words::seeds_in))]
 pub(crate) fn seeds_in(word: &[u8]) -> Result<Seeds, Wrong>
-    ensures exact { result ≡ seeds_in word.now }
-    ensures few { IfOk result AreFewSeeds }
+    ensures { result ≡ seeds_in word.now }
 {
     match first_dot(word) {
         Some(at) => points_of(&word[..at], &word[at + 1..]),
@@ -86,8 +80,7 @@ pub(crate) fn seeds_in(word: &[u8]) -> Result<Seeds, Wrong>
 /// What a word of `schedule` asks for: a seed, or a range of seeds.
 #[tactic(auto, unfolding(crate::specs::Words::schedule_of))]
 pub(crate) fn schedule_of(word: &[u8]) -> Result<Asked, Wrong>
-    ensures exact { result ≡ schedule_of word.now }
-    ensures in_range { IfOk result IsInRange }
+    ensures { result ≡ schedule_of word.now }
 {
     if let Some(seed) = printed_number(word) {
         return Ok(Asked::Schedule(seed));

@@ -17,8 +17,7 @@ use am_names::{EndpointId, Serial};
 use am_scenario_types::Form;
 
 fn json_in(form: Option<Form>) -> Result<Asked, Wrong>
-    ensures exact { result ≡ json_in form }
-    ensures in_range { IfOk result IsInRange }
+    ensures { result ≡ json_in form }
 {
     match form {
         Some(form) => Ok(Asked::Json(form)),
@@ -27,8 +26,7 @@ fn json_in(form: Option<Form>) -> Result<Asked, Wrong>
 }
 
 fn explain_in(form: Option<Form>) -> Result<Asked, Wrong>
-    ensures exact { result ≡ explain_in form }
-    ensures in_range { IfOk result IsInRange }
+    ensures { result ≡ explain_in form }
 {
     match form {
         Some(form) => Ok(Asked::Explain(form)),
@@ -39,8 +37,7 @@ fn explain_in(form: Option<Form>) -> Result<Asked, Wrong>
 // The journal before a step is asked for behind `explain step` alone.
 #[tactic(auto, unfolding(crate::specs::Words::front_of))]
 fn front_of(word: &str, option: &str) -> Result<Asked, Wrong>
-    ensures exact { result ≡ front_of word.now option.now }
-    ensures in_range { IfOk result IsInRange }
+    ensures { result ≡ front_of word.now option.now }
 {
     if word == "step" && option == "--front" {
         Ok(Asked::Front)
@@ -87,8 +84,7 @@ fn serial_of(word: &[u8]) -> Option<Serial>
 }
 
 fn why_message(form: Form, serial: Option<Serial>) -> Result<Asked, Wrong>
-    ensures exact { result ≡ why_message form serial }
-    ensures in_range { IfOk result IsInRange }
+    ensures { result ≡ why_message form serial }
 {
     match serial {
         Some(serial) => Ok(Asked::Why { form, serial }),
@@ -97,8 +93,7 @@ fn why_message(form: Form, serial: Option<Serial>) -> Result<Asked, Wrong>
 }
 
 fn why_in(form: Option<Form>, word: &str) -> Result<Asked, Wrong>
-    ensures exact { result ≡ why_in form word.now }
-    ensures in_range { IfOk result IsInRange }
+    ensures { result ≡ why_in form word.now }
 {
     match form {
         Some(form) => why_message(form, serial_of(word.as_bytes())),
@@ -107,8 +102,7 @@ fn why_in(form: Option<Form>, word: &str) -> Result<Asked, Wrong>
 }
 
 fn chart_whole(form: Option<Form>) -> Result<Asked, Wrong>
-    ensures exact { result ≡ chart_whole form }
-    ensures in_range { IfOk result IsInRange }
+    ensures { result ≡ chart_whole form }
 {
     match form {
         Some(form) => Ok(Asked::Chart { form, part: None }),
@@ -117,8 +111,7 @@ fn chart_whole(form: Option<Form>) -> Result<Asked, Wrong>
 }
 
 fn chart_half(form: Option<Form>) -> Result<Asked, Wrong>
-    ensures exact { result ≡ chart_half form }
-    ensures in_range { IfOk result IsInRange }
+    ensures { result ≡ chart_half form }
 {
     match form {
         Some(_) => Err(Wrong::HalfPart),
@@ -128,8 +121,7 @@ fn chart_half(form: Option<Form>) -> Result<Asked, Wrong>
 
 #[tactic(auto, unfolding(crate::specs::Words::lines_by))]
 fn lines_by(form: Form, from: u64, to: u64) -> Result<Asked, Wrong>
-    ensures exact { result ≡ lines_by form from to }
-    ensures in_range { IfOk result IsInRange }
+    ensures { result ≡ lines_by form from to }
 {
     if from <= 0xffff_ffff && to <= 0xffff_ffff {
         Ok(Asked::Chart {
@@ -145,8 +137,7 @@ fn lines_by(form: Form, from: u64, to: u64) -> Result<Asked, Wrong>
 }
 
 fn chart_lines(form: Form, from: Option<u64>, to: Option<u64>) -> Result<Asked, Wrong>
-    ensures exact { result ≡ chart_lines form from to }
-    ensures in_range { IfOk result IsInRange }
+    ensures { result ≡ chart_lines form from to }
 {
     match (from, to) {
         (Some(from), Some(to)) => lines_by(form, from, to),
@@ -155,8 +146,7 @@ fn chart_lines(form: Form, from: Option<u64>, to: Option<u64>) -> Result<Asked, 
 }
 
 fn chart_part(form: Option<Form>, from: &str, to: &str) -> Result<Asked, Wrong>
-    ensures exact { result ≡ chart_part form from.now to.now }
-    ensures in_range { IfOk result IsInRange }
+    ensures { result ≡ chart_part form from.now to.now }
 {
     match form {
         Some(form) => chart_lines(
@@ -169,8 +159,7 @@ fn chart_part(form: Option<Form>, from: &str, to: &str) -> Result<Asked, Wrong>
 }
 
 fn scenario_in(form: Option<Form>) -> Result<Asked, Wrong>
-    ensures exact { result ≡ scenario_in form }
-    ensures in_range { IfOk result IsInRange }
+    ensures { result ≡ scenario_in form }
 {
     match form {
         Some(form) => Ok(Asked::Scenario(form)),
@@ -180,8 +169,7 @@ fn scenario_in(form: Option<Form>) -> Result<Asked, Wrong>
 
 #[tactic(auto, unfolding(crate::specs::Words::scenario_of))]
 fn scenario_of(word: &str) -> Result<Asked, Wrong>
-    ensures exact { result ≡ scenario_of word.now }
-    ensures in_range { IfOk result IsInRange }
+    ensures { result ≡ scenario_of word.now }
 {
     if word == "segments" {
         Ok(Asked::Expanded)
@@ -191,8 +179,7 @@ fn scenario_of(word: &str) -> Result<Asked, Wrong>
 }
 
 fn made_of(number: Option<u64>) -> Result<Asked, Wrong>
-    ensures exact { result ≡ made_of number }
-    ensures in_range { IfOk result IsInRange }
+    ensures { result ≡ made_of number }
 {
     match number {
         Some(n) => Ok(Asked::Made(n)),
@@ -202,8 +189,7 @@ fn made_of(number: Option<u64>) -> Result<Asked, Wrong>
 
 #[tactic(auto, unfolding(crate::specs::Words::make_of))]
 fn make_of(word: &str, n: &str) -> Result<Asked, Wrong>
-    ensures exact { result ≡ make_of word.now n.now }
-    ensures in_range { IfOk result IsInRange }
+    ensures { result ≡ make_of word.now n.now }
 {
     if word == "make" {
         made_of(printed_number(n.as_bytes()))
@@ -214,8 +200,7 @@ fn make_of(word: &str, n: &str) -> Result<Asked, Wrong>
 
 #[tactic(auto, unfolding(crate::specs::Words::round_of))]
 fn round_of(nodes: u64, turns: u64, number: u64) -> Result<Asked, Wrong>
-    ensures exact { result ≡ round_of nodes turns number }
-    ensures in_range { IfOk result IsInRange }
+    ensures { result ≡ round_of nodes turns number }
 {
     if 1 <= nodes && nodes <= 8 && turns <= 10_000 && 1 <= number {
         Ok(Asked::Round {
@@ -229,8 +214,7 @@ fn round_of(nodes: u64, turns: u64, number: u64) -> Result<Asked, Wrong>
 }
 
 fn rounds_in(nodes: Option<u64>, turns: Option<u64>, number: Option<u64>) -> Result<Asked, Wrong>
-    ensures exact { result ≡ rounds_in nodes turns number }
-    ensures in_range { IfOk result IsInRange }
+    ensures { result ≡ rounds_in nodes turns number }
 {
     match (nodes, turns, number) {
         (Some(nodes), Some(turns), Some(number)) => round_of(nodes, turns, number),
@@ -240,8 +224,7 @@ fn rounds_in(nodes: Option<u64>, turns: Option<u64>, number: Option<u64>) -> Res
 
 #[tactic(auto, unfolding(crate::specs::Words::count_of))]
 fn count_of(word: &str, nodes: &str, turns: &str, number: &str) -> Result<Asked, Wrong>
-    ensures exact { result ≡ count_of word.now nodes.now turns.now number.now }
-    ensures in_range { IfOk result IsInRange }
+    ensures { result ≡ count_of word.now nodes.now turns.now number.now }
 {
     if word == "count" {
         rounds_in(
@@ -256,8 +239,7 @@ fn count_of(word: &str, nodes: &str, turns: &str, number: &str) -> Result<Asked,
 
 #[tactic(auto, unfolding(crate::specs::Words::replay_of))]
 fn replay_of(word: &str) -> Result<Asked, Wrong>
-    ensures exact { result ≡ replay_of word.now }
-    ensures in_range { IfOk result IsInRange }
+    ensures { result ≡ replay_of word.now }
 {
     if word == "run" {
         Ok(Asked::Replay)
@@ -268,8 +250,7 @@ fn replay_of(word: &str) -> Result<Asked, Wrong>
 
 #[tactic(auto, unfolding(crate::specs::Words::of_two_words))]
 fn of_two_words(command: &str, word: &str) -> Result<Asked, Wrong>
-    ensures exact { result ≡ of_two_words command.now word.now }
-    ensures in_range { IfOk result IsInRange }
+    ensures { result ≡ of_two_words command.now word.now }
 {
     match command {
         "explain" => explain_in(form_of(word)),
@@ -285,8 +266,7 @@ fn of_two_words(command: &str, word: &str) -> Result<Asked, Wrong>
 
 #[tactic(auto, unfolding(crate::specs::Words::of_three_words))]
 fn of_three_words(command: &str, word: &str, other: &str) -> Result<Asked, Wrong>
-    ensures exact { result ≡ of_three_words command.now word.now other.now }
-    ensures in_range { IfOk result IsInRange }
+    ensures { result ≡ of_three_words command.now word.now other.now }
 {
     match command {
         "explain" => front_of(word, other),
@@ -301,8 +281,7 @@ fn of_three_words(command: &str, word: &str, other: &str) -> Result<Asked, Wrong
 
 #[tactic(auto, unfolding(crate::specs::Words::of_four_words))]
 fn of_four_words(command: &str, word: &str, from: &str, to: &str) -> Result<Asked, Wrong>
-    ensures exact { result ≡ of_four_words command.now word.now from.now to.now }
-    ensures in_range { IfOk result IsInRange }
+    ensures { result ≡ of_four_words command.now word.now from.now to.now }
 {
     match command {
         "chart" => chart_part(form_of(word), from, to),
@@ -319,8 +298,7 @@ fn of_five_words(
     turns: &str,
     number: &str,
 ) -> Result<Asked, Wrong>
-    ensures exact { result ≡ of_five_words command.now word.now nodes.now turns.now number.now }
-    ensures in_range { IfOk result IsInRange }
+    ensures { result ≡ of_five_words command.now word.now nodes.now turns.now number.now }
 {
     if command == "scenario" {
         count_of(word, nodes, turns, number)
@@ -332,8 +310,7 @@ fn of_five_words(
 // What a command asks for whose words are fixed in number.
 #[tactic(auto, unfolding(crate::specs::Words::of_words))]
 fn of_words(command: &str, words: &[String]) -> Result<Asked, Wrong>
-    ensures exact { result ≡ of_words command.now (map string_bytes words.now) }
-    ensures in_range { IfOk result IsInRange }
+    ensures { result ≡ of_words command.now (map string_bytes words.now) }
 {
     match words {
         [word] => of_two_words(command, word.as_str()),
@@ -352,8 +329,7 @@ fn of_words(command: &str, words: &[String]) -> Result<Asked, Wrong>
 
 #[tactic(auto, unfolding(crate::specs::Words::of_command))]
 fn of_command(command: &str, words: &[String]) -> Result<Asked, Wrong>
-    ensures exact { result ≡ of_command command.now (map string_bytes words.now) }
-    ensures in_range { IfOk result IsInRange }
+    ensures { result ≡ of_command command.now (map string_bytes words.now) }
 {
     match command {
         "find" => find_of(words),
@@ -362,15 +338,22 @@ fn of_command(command: &str, words: &[String]) -> Result<Asked, Wrong>
     }
 }
 
-/// What the words after the program's name ask for; else what is wrong with them. Numbers are in decimal digits without a
-/// sign or a leading zero, and are ones that the command takes.
+// What the words after the program's name ask for.
 #[tactic(auto, unfolding(crate::specs::Words::asked_for))]
-pub fn asked_for(words: &[String]) -> Result<Asked, Wrong>
-    ensures exact { result ≡ asked_for (map string_bytes words.now) }
-    ensures in_range { IfOk result IsInRange }
+fn asked_by(words: &[String]) -> Result<Asked, Wrong>
+    ensures { result ≡ asked_for (map string_bytes words.now) }
 {
     match words {
         [command, rest @ ..] => of_command(command.as_str(), rest),
         [] => Err(Wrong::Form),
     }
+}
+
+/// What the words after the program's name ask for; else what is wrong with them. Numbers are in decimal digits without a
+/// sign or a leading zero, and are ones that the command takes.
+pub fn asked_for(words: &[String]) -> Result<Asked, Wrong>
+    ensures exact { result ≡ asked_for (map string_bytes words.now) }
+    ensures in_range { IfOk result IsInRange }
+{
+    asked_by(words)
 }

@@ -1,48 +1,15 @@
 //! The words of `state`.
 
-ghost use Rattle.am_lab_words.specs.Ranges.{IsInRange};
 ghost use Rattle.am_lab_words.specs.Words.{state_at_end, state_behind, state_between, state_by, state_change, state_line};
-ghost use Rattle.std.specs.Prelude.{◌≡◌, IfOk};
+ghost use Rattle.std.specs.Prelude.{◌≡◌};
 
-use crate::forms::form_word;
 use crate::numbers::printed_number;
 use crate::{Asked, Lines, States, Wrong};
 use am_scenario_types::Form;
-use clap::{Arg, Command};
-use std::alloc::{AllocError, Global};
-
-/// A line that asks for a state.
-pub(crate) const STATE_EXAMPLE: &str =
-    "cat examples/first.am2 examples/first.out | bin/am2_lab state step 9";
-
-const STATE_INPUT: &str =
-    "Standard input is a scenario of this form and, behind it, its report:\n\n  \
-    cat examples/first.am2 examples/first.out | bin/am2_lab state step 9\n  \
-    cat examples/first.am2 examples/first.out | bin/am2_lab state step 9 12";
-
-/// The words of `state`.
-pub(crate) fn state_words<'a>(alloc: Global) -> Result<Command<'a>, AllocError> {
-    let command = Command::new(alloc, "state")
-        .about(
-            "Tells the state behind an entry of a report, or at its end, or what changed from one entry to another",
-        )
-        .override_usage("am2_lab state <form> [LINE [LINE2]]")
-        .after_help(STATE_INPUT);
-    let command = command.arg(form_word(alloc))?;
-    let line = Arg::new(alloc, "LINE").help(
-        "the entry's line in the report; without it the state is that at the end, and the journal begins in line 3",
-    );
-    let command = command.arg(line)?;
-    let other = Arg::new(alloc, "LINE2").help(
-        "what changed from the state of LINE to that of LINE2",
-    );
-    command.arg(other)
-}
 
 /// What `state` and a form ask for.
 pub(crate) fn state_at_end(form: Option<Form>) -> Result<Asked, Wrong>
-    ensures exact { result ≡ state_at_end form }
-    ensures in_range { IfOk result IsInRange }
+    ensures { result ≡ state_at_end form }
 {
     match form {
         Some(form) => Ok(Asked::State {
@@ -55,8 +22,7 @@ pub(crate) fn state_at_end(form: Option<Form>) -> Result<Asked, Wrong>
 
 #[tactic(auto, unfolding(crate::specs::Words::state_line))]
 fn state_line(form: Form, line: Option<u64>) -> Result<Asked, Wrong>
-    ensures exact { result ≡ state_line form line }
-    ensures in_range { IfOk result IsInRange }
+    ensures { result ≡ state_line form line }
 {
     match line {
         Some(line) if line <= 0xffff_ffff => Ok(Asked::State {
@@ -69,8 +35,7 @@ fn state_line(form: Form, line: Option<u64>) -> Result<Asked, Wrong>
 
 /// What `state`, a form and a line ask for.
 pub(crate) fn state_behind(form: Option<Form>, line: &str) -> Result<Asked, Wrong>
-    ensures exact { result ≡ state_behind form line.now }
-    ensures in_range { IfOk result IsInRange }
+    ensures { result ≡ state_behind form line.now }
 {
     match form {
         Some(form) => state_line(form, printed_number(line.as_bytes())),
@@ -80,8 +45,7 @@ pub(crate) fn state_behind(form: Option<Form>, line: &str) -> Result<Asked, Wron
 
 #[tactic(auto, unfolding(crate::specs::Words::state_by))]
 fn state_by(form: Form, from: u64, to: u64) -> Result<Asked, Wrong>
-    ensures exact { result ≡ state_by form from to }
-    ensures in_range { IfOk result IsInRange }
+    ensures { result ≡ state_by form from to }
 {
     if from <= 0xffff_ffff && to <= 0xffff_ffff {
         Ok(Asked::State {
@@ -97,8 +61,7 @@ fn state_by(form: Form, from: u64, to: u64) -> Result<Asked, Wrong>
 }
 
 fn state_change(form: Form, from: Option<u64>, to: Option<u64>) -> Result<Asked, Wrong>
-    ensures exact { result ≡ state_change form from to }
-    ensures in_range { IfOk result IsInRange }
+    ensures { result ≡ state_change form from to }
 {
     match (from, to) {
         (Some(from), Some(to)) => state_by(form, from, to),
@@ -108,8 +71,7 @@ fn state_change(form: Form, from: Option<u64>, to: Option<u64>) -> Result<Asked,
 
 /// What `state`, a form and two lines ask for.
 pub(crate) fn state_between(form: Option<Form>, from: &str, to: &str) -> Result<Asked, Wrong>
-    ensures exact { result ≡ state_between form from.now to.now }
-    ensures in_range { IfOk result IsInRange }
+    ensures { result ≡ state_between form from.now to.now }
 {
     match form {
         Some(form) => state_change(
