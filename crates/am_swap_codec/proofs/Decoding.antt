@@ -1,13 +1,16 @@
 -- What is decoded is the valid body with these bytes, where there is one.
-use Rattle.std.proofs.Common.{◌≡◌, ℕ, true, false, List, Option, Some, None, sym, ap, ◌∙◌}
+use Rattle.std.proofs.Common.{◌≡◌, ℕ, true, false, cond, List, length, Option, Some, None, refl, sym, ap, ◌∙◌}
+use Rattle.std.specs.Prelude.{◌==◌, Bool, is_some, if◌then◌else◌}
+use Rattle.am_lemmas.specs.Options.{◌>>=◌}
 use Rattle.am_names.specs.declared.EndpointId.{EndpointId}
 use Rattle.am_model.specs.Endpoint.{Body}
 use Rattle.am_swap_image.specs.Image.{image}
 use Rattle.am_lemmas.specs.Bytes.{AreBytes}
-use Rattle.am_swap_image.specs.Reading.{whole_body}
+use Rattle.am_swap_image.specs.Reading.{Read, body_at, whole_body}
 use Rattle.am_swap_image.specs.Valid.{IsValid}
 use Rattle.am_swap_image.proofs.Bodies.{IsImage, is_written, whole_again, whole_takes}
-use Rattle.am_swap_codec.specs.Decodes.{Decodes}
+use Rattle.am_swap_codec.specs.Decodes.{Decodes, reads_as_body}
+use Rattle.am_swap_codec.specs.Parts.{behind}
 use Rattle.am_swap_codec.specs.Tests.{passes}
 use Rattle.am_swap_codec.proofs.Validity.{passes_valid, valid_passes}
 
@@ -39,3 +42,30 @@ pub passed : (e : EndpointId) (pool : Option ℕ) (bytes : List ℕ) (x : Body) 
 passed e pool bytes x fits found h =
     let is : IsImage e bytes x = whole_takes e bytes x fits found in
     (is.image_is, passes_valid e pool x is.written h)
+
+-- a body that is read is all of the bytes where none are behind it
+abbrev with_all : Body × List ℕ → Option Body
+with_all body = if length body.1 == 0 then Some body.0 else None
+
+none_behind : (read : Read Body) → behind read ≡ None → false ≡ is_some (read >>= with_all)
+none_behind None h = refl
+none_behind (Some x) h = absurd (let e : ◌≡◌ {A = Option (List ℕ)} (Some x.1) None = h in cc)
+
+some_behind : (read : Read Body) (rest : List ℕ) (b : Bool) → b ≡ (length rest == 0) → behind read ≡ Some rest → b ≡ is_some (read >>= with_all)
+some_behind None rest b is h = absurd (let e : ◌≡◌ {A = Option (List ℕ)} None (Some rest) = h in cc)
+some_behind (Some x) rest b is h = is ∙ ap (λ (r : List ℕ). length r == 0) (sym same) ∙ tells (length x.1 == 0)
+  where
+    same : x.1 ≡ rest
+    same = let e : ◌≡◌ {A = Option (List ℕ)} (Some x.1) (Some rest) = h in cc
+
+    tells : (t : Bool) → t ≡ is_some (if t then Some x.0 else None)
+    tells true = refl
+    tells false = refl
+
+pub not_passed_over : (e : EndpointId) (bytes : List ℕ) → behind (body_at e bytes) ≡ None → false ≡ reads_as_body e bytes
+unfolding whole_body
+not_passed_over e bytes h = none_behind (body_at e bytes) h
+
+pub passed_over : (e : EndpointId) (bytes rest : List ℕ) (b : Bool) → b ≡ (length rest == 0) → behind (body_at e bytes) ≡ Some rest → b ≡ reads_as_body e bytes
+unfolding whole_body
+passed_over e bytes rest b is h = some_behind (body_at e bytes) rest b is h

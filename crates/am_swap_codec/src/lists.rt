@@ -1,15 +1,15 @@
-ghost use Rattle.am_swap_codec.specs.Pieces.Answers.{Finds, Gives};
+ghost use Rattle.am_swap_codec.specs.Pieces.Answers.{Finds, FindsExactly, Gives};
 ghost use Rattle.am_swap_codec.specs.Counts.{AreCounted};
-ghost use Rattle.am_swap_codec.specs.Decodes.{Decodes};
-ghost use Rattle.am_swap_codec.specs.Parts.{arrivals_at, head_at, queues_at, tables_at};
+ghost use Rattle.am_swap_codec.specs.Decodes.{Decodes, reads_as_body};
+ghost use Rattle.am_swap_codec.specs.Parts.{arrivals_at, behind, head_at, queues_at, tables_at};
 ghost use Rattle.am_swap_image.specs.Image.{image};
 ghost use Rattle.am_swap_image.specs.Range.{IsInRange};
 ghost use Rattle.am_swap_image.specs.Reading.{body_at, whole_body};
-ghost use Rattle.std.specs.Prelude.{◌≡◌, ◌++◌, IfOk, OnOk};
+ghost use Rattle.std.specs.Prelude.{◌≡◌, ◌++◌, IfErr, IfOk, OnOk, true};
 
 use crate::pieces::{
-    ImageFault, all_in_range, head_in_range, put_counted, put_each, put_long, put_magic, put_short,
-    take_counted, take_long, take_magic, take_many, take_short,
+    ImageFault, all_in_range, head_in_range, pass_counted, pass_many, put_counted, put_each,
+    put_long, put_magic, put_short, take_counted, take_long, take_magic, take_many, take_short,
 };
 use am_model::{Awaited, Mapping, Notice, Queued};
 use am_names::{EndpointId, Message, Tag};
@@ -100,14 +100,15 @@ impl BodyLists {
 
 impl BodyLists {
     /// The valid body of the endpoint, with this pool or none, whose image the bytes are. `None` exactly where there is
-    /// none.
+    /// none; want of memory only of bytes that read as a body.
     pub fn decoded(
         alloc: Global,
         id: EndpointId,
         pool: Option<u8>,
         bytes: &[u8],
     ) -> Result<Option<BodyLists>, NoMemory>
-        ensures { IfOk result (λ found. Decodes id pool bytes.now found) }
+        ensures found { IfOk result (λ found. Decodes id pool bytes.now found) }
+        ensures no_memory { IfErr result (λ fault. reads_as_body id bytes.now ≡ true) }
     {
         match take_whole(alloc, id, bytes) {
             Err(ImageFault::NoMemory) => Err(NoMemory),
@@ -208,15 +209,40 @@ fn take_body(alloc: Global, id: EndpointId, bytes: &[u8]) -> Result<(BodyLists, 
     Ok((lists, rest))
 }
 
-/// The body that all of the bytes are the image of.
+/// The bytes behind a body. It takes no memory.
+#[tactic(auto, using(crate::proofs::InParts::behind_body))]
+fn pass_body(id: EndpointId, bytes: &[u8]) -> Option<&[u8]>
+    ensures { Gives (λ x. x.now) result (behind (body_at id bytes.now)) }
+{
+    let (_, rest) = take_head(bytes)?;
+    let rest = pass_many::<Option<Mapping>>(id, 16, rest)?;
+    let rest = pass_counted::<Awaited>(id, rest)?;
+    let rest = pass_many::<Option<HandlerKind>>(id, 16, rest)?;
+    let rest = pass_counted::<Queued>(id, rest)?;
+    let rest = pass_counted::<Queued>(id, rest)?;
+    let rest = pass_counted::<Notice>(id, rest)?;
+    pass_counted::<Message>(id, rest)
+}
+
+/// Whether the bytes read as a body, valid or not. It takes no memory.
+fn is_body(id: EndpointId, bytes: &[u8]) -> bool
+    ensures { result ≡ reads_as_body id bytes.now }
+{
+    match pass_body(id, bytes) {
+        None => false,
+        Some(rest) => rest.is_empty(),
+    }
+}
+
+/// The body that all of the bytes are the image of. Where memory runs out they are walked once more, without memory, so
+/// that bytes which are no image are told as such.
 #[tactic(auto, unfolding(am_swap_image::specs::Reading::whole_body))]
 fn take_whole(alloc: Global, id: EndpointId, bytes: &[u8]) -> Result<BodyLists, ImageFault>
-    ensures { Finds (λ x. x) result (whole_body id bytes.now) }
+    ensures { FindsExactly (λ x. x) result (whole_body id bytes.now) }
 {
-    let (lists, rest) = take_body(alloc, id, bytes)?;
-    if rest.is_empty() {
-        Ok(lists)
-    } else {
-        Err(ImageFault::NoBody)
+    match take_body(alloc, id, bytes) {
+        Ok((lists, [])) => Ok(lists),
+        Err(ImageFault::NoMemory) if is_body(id, bytes) => Err(ImageFault::NoMemory),
+        _ => Err(ImageFault::NoBody),
     }
 }

@@ -8,7 +8,7 @@ mod reading;
 mod writing;
 
 pub use fault::ImageFault;
-pub use many::{put_counted, put_each, take_counted, take_many};
+pub use many::{pass_counted, pass_many, put_counted, put_each, take_counted, take_many};
 pub use part::ImagePart;
 pub use ranges::{all_in_range, head_in_range};
 pub use reading::{take_long, take_magic, take_short};

@@ -1,5 +1,5 @@
 -- What the code reads, against what reading gives.
-use Rattle.std.specs.Prelude.{◌≡◌, Option, Some, None, Result, Ok, Err}
+use Rattle.std.specs.Prelude.{◌≡◌, true, is_some, Option, Some, None, Result, Ok, Err}
 use Rattle.am_swap_codec.specs.declared.pieces.fault.ImageFault.{ImageFault}
 use Rattle.am_swap_codec.specs.declared.pieces.fault.ImageFault.TheVariants as faults
 
@@ -13,3 +13,9 @@ abbrev pub Finds : {X Y : Type 0} → (X → Y) → Result X ImageFault → Opti
 Finds view (Ok x) read = read ≡ Some (view x)
 Finds view (Err faults.NoBody) read = read ≡ None
 Finds view (Err faults.NoMemory) read = Unit {0}
+
+-- the same; memory ran out only where something is read
+abbrev pub FindsExactly : {X Y : Type 0} → (X → Y) → Result X ImageFault → Option Y → Type 0
+FindsExactly view (Ok x) read = read ≡ Some (view x)
+FindsExactly view (Err faults.NoBody) read = read ≡ None
+FindsExactly view (Err faults.NoMemory) read = is_some read ≡ true

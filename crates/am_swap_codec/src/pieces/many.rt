@@ -1,5 +1,6 @@
 // Lists of parts, written and read.
-ghost use Rattle.am_swap_codec.specs.Pieces.Answers.{Finds};
+ghost use Rattle.am_swap_codec.specs.Parts.{behind};
+ghost use Rattle.am_swap_codec.specs.Pieces.Answers.{Finds, Gives};
 ghost use Rattle.am_swap_image.specs.Image.{counted};
 ghost use Rattle.am_swap_image.specs.Reading.{counted_at, many_at};
 ghost use Rattle.std.specs.Prelude.{◌≡◌, ◌++◌, ◌<◌, OnOk, flat_map, length};
@@ -69,4 +70,27 @@ pub fn take_counted<P: ImagePart>(
         None => Err(ImageFault::NoBody),
         Some((count, rest)) => take_many(alloc, id, count, rest),
     }
+}
+
+/// The bytes behind so many parts. It takes no memory.
+pub fn pass_many<P: ImagePart>(id: EndpointId, count: u8, bytes: &[u8]) -> Option<&[u8]>
+    ensures { Gives (λ x. x.now) result (behind (many_at (P.at id) count bytes.now)) }
+{
+    let mut rest = bytes;
+    for number in 0..count {
+        match P::take(id, rest) {
+            None => return None,
+            Some((_, after)) => rest = after,
+        }
+    }
+    Some(rest)
+}
+
+/// The bytes behind a list of parts and its count. It takes no memory.
+#[tactic(auto, unfolding(am_swap_image::specs::Reading::counted_at))]
+pub fn pass_counted<P: ImagePart>(id: EndpointId, bytes: &[u8]) -> Option<&[u8]>
+    ensures { Gives (λ x. x.now) result (behind (counted_at (P.at id) bytes.now)) }
+{
+    let (count, rest) = take_byte(bytes)?;
+    pass_many::<P>(id, count, rest)
 }
