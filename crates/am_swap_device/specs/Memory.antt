@@ -1,5 +1,5 @@
 -- What a swap in memory answers to each call, exactly.
-use Rattle.std.specs.Prelude.{◌≡◌, ℕ, Bool, true, false, List, [], ◌∷◌, Option, Some, None, find, if◌then◌else◌}
+use Rattle.std.specs.Prelude.{◌≡◌, ℕ, zero, suc, ◌+◌, Bool, true, false, List, [], ◌∷◌, Option, Some, None, find, if◌then◌else◌}
 use Rattle.std.specs.Option.{option_map}
 use Rattle.am_names.specs.declared.EndpointId.{EndpointId}
 use Rattle.am_names.specs.Names.{same_end}
@@ -18,6 +18,11 @@ pub record Store : Type 0 where
   pub fails : List ℕ
   pub calls : ℕ
   pub faults : ℕ
+
+-- how many of so many calls fail, those whose numbers are listed
+unfoldable pub failed_among : List ℕ → ℕ → ℕ
+failed_among fails zero = 0
+failed_among fails (suc calls) = failed_among fails calls + (if fails_after fails calls then 1 else 0)
 
 -- whether this is held for the key
 abbrev pub is_for : EndpointId → HeldImage → Bool

@@ -1,7 +1,7 @@
-ghost use Rattle.am_swap_device.specs.Causes.{fails_after};
-ghost use Rattle.am_swap_device.specs.Memory.{CallsSo, counted, device_of, faulted, held_for, with_held};
+ghost use Rattle.am_swap_device.specs.Causes.{fails_after, one_more};
+ghost use Rattle.am_swap_device.specs.Memory.{CallsSo, counted, device_of, failed_among, faulted, held_for, with_held};
 ghost use Rattle.std.specs.Option.{option_copied};
-ghost use Rattle.std.specs.Prelude.{◌≡◌, ◌≤◌, ◌↔◌, [], None, OnErr, OnOk};
+ghost use Rattle.std.specs.Prelude.{◌≡◌, ◌≤◌, ◌↔◌, ◌<◌, ◌^◌, [], None, OnErr, OnOk, false, true};
 
 use crate::kept::{Kept, held_for, hold};
 use crate::swap::{Look, Swap, SwapFault};
@@ -18,6 +18,7 @@ pub struct MemorySwap {
     fails: Vec<u32>,
     calls: u64,
     faults: u64,
+    ghost tallied: { faults ≡ failed_among fails.items calls },
 }
 
 impl Model for MemorySwap {
@@ -60,8 +61,16 @@ impl MemorySwap {
         held_for(&self.kept, key)
     }
 
+    /// Of its calls so far those failed that were to fail. Nothing runs here.
+    pub fn tallied(&self)
+        ensures { self.now.faults ≡ failed_among self.now.fails self.now.calls }
+    {
+        let _faults = self.faults;
+    }
+
     /// Counts a call that is done.
     fn count(&mut self)
+        requires { fails_after self.old.fails self.old.calls ≡ false }
         ensures { self.new ≡ counted self.old }
     {
         self.calls = self.calls.saturating_add(1);
@@ -69,15 +78,23 @@ impl MemorySwap {
 
     /// Counts a call that failed.
     fn fail(&mut self) -> SwapFault
+        requires { fails_after self.old.fails self.old.calls ≡ true }
         ensures fault { result ≡ SwapFault.Failed }
         ensures counts { self.new ≡ faulted self.old }
         ensures rose { self.old.faults ≤ self.new.faults }
     {
-        self.count();
+        is_low(self.fails.as_slice(), self.calls);
+        self.calls = self.calls.saturating_add(1);
         self.faults = self.faults.saturating_add(1);
         SwapFault::Failed
     }
 }
+
+/// A call that fails has a number at which counts don't stand still yet. Nothing runs here.
+fn is_low(fails: &[u32], calls: u64)
+    requires { fails_after fails.now calls ≡ true }
+    ensures { one_more calls < 2 ^ 32 }
+{}
 
 /// Whether the call after so many fails.
 fn fails_after(fails: &[u32], calls: u64) -> bool
