@@ -1,11 +1,12 @@
 -- What decoding finds, by what is found as lists.
-use Rattle.std.specs.Prelude.{◌≡◌, ◌↔◌, ℕ, Option, None, Some, List, []}
+use Rattle.std.specs.Prelude.{◌≡◌, ◌↔◌, ℕ, true, Option, None, Some, List, [], IfErr, Result, Ok, Err, is_some}
 use Rattle.std.proofs.Common.{refl, sym, ap, subst, ◌∙◌}
 use Rattle.am_names.specs.declared.EndpointId.{EndpointId}
 use Rattle.am_endpoint_body.specs.Views.{View}
 use Rattle.am_model.specs.Endpoint.{Body}
-use Rattle.am_swap_image.proofs.Bodies.{each_body_has_its_image}
-use Rattle.am_swap_codec.specs.Decodes.{Decodes}
+use Rattle.am_swap_image.specs.Reading.{whole_body}
+use Rattle.am_swap_image.proofs.Bodies.{each_body_has_its_image, is_written, whole_again}
+use Rattle.am_swap_codec.specs.Decodes.{Decodes, reads_as_body}
 use Rattle.am_swap.specs.Decoded.{FindsEach, NoBodyHas}
 
 -- the lists that were found
@@ -31,3 +32,10 @@ some_has e pool bytes b w found = ((λ h. absurd (let both : Some w ≡ None = h
 pub none_has : (e : EndpointId) (pool : Option ℕ) (bytes : List ℕ) (found : Option Body) → found ≡ None → Decodes e pool bytes found →
     ◌≡◌ {A = Option View} None None ↔ NoBodyHas e pool bytes
 none_has e pool bytes found is h = ((λ none. subst (λ (o : Option Body). Decodes e pool bytes o) is h), (λ none. refl))
+
+-- bytes in which a body was found read as a body, whatever is answered
+pub some_reads : {T E : Type 0} (answer : Result T E) (e : EndpointId) (pool : Option ℕ) (bytes : List ℕ) (b : Body) → Decodes e pool bytes (Some b) →
+    IfErr answer (λ fault. reads_as_body e bytes ≡ true)
+some_reads (Ok found') e pool bytes b found = tt
+some_reads (Err fault) e pool bytes b found =
+    ap (λ (read : Option Body). is_some read) (ap (whole_body e) (sym found.0) ∙ whole_again e b (is_written e pool b found.1))

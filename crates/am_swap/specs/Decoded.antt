@@ -3,6 +3,7 @@ use Rattle.std.specs.Prelude.{◌≡◌, ◌≢◌, ℕ, Option, Some, List, [],
 use Rattle.am_names.specs.declared.EndpointId.{EndpointId}
 use Rattle.am_endpoint_body.specs.Views.{View}
 use Rattle.am_model.specs.Endpoint.{Body}
+pub use Rattle.am_swap_codec.specs.Decodes.{reads_as_body}
 use Rattle.am_swap_image.specs.Image.{image}
 use Rattle.am_swap_image.specs.Valid.{IsValid}
 

@@ -7,9 +7,9 @@ ghost use Rattle.am_swap_image.specs.Range.{IsInRange};
 ghost use Rattle.am_swap_image.specs.Valid.{IsValid};
 ghost use Rattle.am_model.specs.Endpoint.{Body as Held};
 ghost use Rattle.am_names.specs.declared.EndpointId.{EndpointId as Id};
-ghost use Rattle.am_swap.specs.Decoded.{FindsEach, IsImaged, NoBodyHas};
+ghost use Rattle.am_swap.specs.Decoded.{FindsEach, IsImaged, NoBodyHas, reads_as_body};
 ghost use Rattle.am_swap.specs.Laws.{DamageIsSeen};
-ghost use Rattle.std.specs.Prelude.{◌≡◌, ◌↔◌, ◌<◌, [], IfOk, None, length};
+ghost use Rattle.std.specs.Prelude.{◌≡◌, ◌↔◌, ◌<◌, [], IfErr, IfOk, None, length, true};
 
 mod listed;
 mod made;
@@ -38,7 +38,8 @@ pub fn encode(alloc: Global, body: &Body) -> Result<Vec<u8>, NoMemory>
 }
 
 /// The body that the endpoint, with this pool or none, may have and whose image the bytes are; `None` exactly where
-/// there is none. It is found whatever the bytes are.
+/// there is none. It is found whatever the bytes are; want of memory is told only of bytes that read as a body, so no
+/// damage passes for it.
 pub fn decode(
     alloc: Global,
     id: EndpointId,
@@ -48,6 +49,7 @@ pub fn decode(
     ensures imaged { IfOk result (IsImaged id pool bytes.now) }
     ensures each { IfOk result (FindsEach id pool bytes.now) }
     ensures none { IfOk result (λ found. (found ≡ None) ↔ NoBodyHas id pool bytes.now) }
+    ensures no_memory { IfErr result (λ fault. reads_as_body id bytes.now ≡ true) }
 {
     match BodyLists::decoded(alloc, id, pool, bytes)? {
         None => Ok(None),
