@@ -4,6 +4,7 @@ ghost use Rattle.am_machine_journal.specs.Merge.Joined.{AreOne};
 ghost use Rattle.am_machine_journal.specs.Index.View.{IsIndexOf};
 ghost use Rattle.am_machine.specs.Parting.{settings_from};
 ghost use Rattle.am_machine.specs.Parts.{AreNodeParts, CanUnite};
+ghost use Rattle.am_machine.specs.Swaps.{IsTallied};
 ghost use Rattle.am_model_merge.specs.Logs.{IsRising};
 ghost use Rattle.am_model_merge.specs.Merged.{entries_of};
 ghost use Rattle.am_model.specs.Layout.{AllAre};
@@ -12,7 +13,7 @@ ghost use Rattle.am_machine.specs.Node.Parts.{all_logs, journal_of};
 ghost use Rattle.am_machine.specs.Node.Taken.{HasRoomFor, IsEmpty};
 ghost use Rattle.am_scenario_types.specs.Lawful.{IsLawful};
 ghost use Rattle.am_scenario_types.specs.declared.parts.Network.TheVariants as Networks;
-ghost use Rattle.std.specs.Prelude.{◌≡◌, ◌≤◌, [], false, length, vec_capacity, IfErr, IfOk};
+ghost use Rattle.std.specs.Prelude.{◌≡◌, ◌≤◌, [], false, length, vec_capacity, All, IfErr, IfOk};
 
 use crate::Cluster;
 use crate::node::{
@@ -75,11 +76,13 @@ fn open_frame(alloc: Global, scenario: &Scenario, parts: &[NodePart]) -> Result<
 
 impl Cluster {
     /// Takes a cluster of the packet network apart into the parts of its nodes, in order. Logs, channel ends, links and disks
-    /// stay what they are, and the logs merge into its journal. Where there is no memory for it the cluster is handed back.
+    /// stay what they are, and the logs merge into its journal; of each disk's calls those failed that were to fail. Where there is
+    /// no memory for it the cluster is handed back.
     pub fn split(self, alloc: Global) -> Result<Vec<NodePart>, Cluster>
         requires packet { self.layout.direct ≡ false }
         ensures parts { IfOk result (λ parts. AreNodeParts self.layout self.journal parts.items) }
         ensures journal { IfOk result (λ parts. journal_of parts.items ≡ self.journal) }
+        ensures faults { IfOk result (λ parts. All (λ part. IsTallied part.swap) parts.items) }
         ensures err { IfErr result (λ same. same ≡ self) }
     {
         let Ok(shells) = open_shells(alloc, &self.ends, &self.index, self.settings.nodes) else {

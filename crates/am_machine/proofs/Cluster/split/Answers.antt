@@ -96,7 +96,7 @@ returns-clause-parts c =
     let made = are_parts layout (journal_by (map kept c.self.inside.ends.items) c.self.inside.interfaces.items) vs c.in-Ok.shells.items c.deal.result.items
     c.self.inside.interfaces.items c.self.inside.swaps.items (apart_still c) in
     subst (λ (w : ClusterView). AreNodeParts w.layout w.journal c.assemble.result.items) c.self.view_is
-    (subst (AreNodeParts layout (journal_by (map kept c.self.inside.ends.items) c.self.inside.interfaces.items)) (sym c.assemble.ensures) made)
+    (subst (AreNodeParts layout (journal_by (map kept c.self.inside.ends.items) c.self.inside.interfaces.items)) (sym c.assemble.ensures.parts) made)
 
 pub returns-clause-journal : goal.returns-clause-journal
 returns-clause-journal c =
@@ -106,5 +106,5 @@ returns-clause-journal c =
     let parts = parts_of c.deal.result.items c.self.inside.interfaces.items c.self.inside.swaps.items in
     let made = are_parts layout journal vs c.in-Ok.shells.items c.deal.result.items c.self.inside.interfaces.items c.self.inside.swaps.items (apart_still c) in
     let tied = c.self.invariant.kept'.tied in
-    ap journal_of c.assemble.ensures ∙ merged_is journal (all_logs parts) tied.ordered (have_just layout journal parts tied.lawful tied.history made)
+    ap journal_of c.assemble.ensures.parts ∙ merged_is journal (all_logs parts) tied.ordered (have_just layout journal parts tied.lawful tied.history made)
     ∙ ap (λ (w : ClusterView). w.journal) c.self.view_is
