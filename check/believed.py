@@ -284,8 +284,8 @@ def told_of_files(new, files, order):
         lines = sum(files[path].lines[name] for name in new[path])
         title = "/".join(path.with_suffix("").parts[3:])
         names = ", ".join(f"`{name}`" for name in files[path].text if name in new[path]) if len(new[path]) <= 2 else ""
-        crates.setdefault(path.parts[1], []).append((f"[{title}](../{path}) {lines}" + (f" ({names})" if names else ""), lines))
-    return [item(f"{crate} {sum(it[1] for it in its)}: {', '.join(it[0] for it in its)}") for crate, its in crates.items()]
+        crates.setdefault(path.parts[1], []).append(f"[{title}](../{path}) {lines}" + (f" ({names})" if names else ""))
+    return [item(f"{crate}: {', '.join(its)}") for crate, its in crates.items()]
 
 
 def told_of_types(kinds, order):

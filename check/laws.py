@@ -12,10 +12,9 @@ PAGES = ("LAWS.md", "DEFINITIONS.md", "PLACES.md", "PARTS.md", "LIBRARIES.md")
 SIGNATURE = re.compile(r"\s*pub (?:const |ghost )?fn (\w+)")
 HEAD = """# Laws that serve other crates
 
-A public function with an empty body is a law: its contract says it, and the function is its proof. The laws that a
-reader of the system looks for stand in [LAWS.md](LAWS.md) and [DEFINITIONS.md](DEFINITIONS.md). Here are the others, so
-that none is without a place: by the file, in which the comment above each says it in a sentence, with the crates that
-cite it in brackets. `check/laws.py --write` makes this page of the sources, and `.ci/checks` compares it.
+Public functions with an empty body, whose contract is a theorem, as in [LAWS.md](LAWS.md) and
+[DEFINITIONS.md](DEFINITIONS.md); these stand on no other page. Each stands under its file, where the comment above it
+says it in a sentence, with the crates that cite it in brackets. `check/laws.py --write` makes this page.
 
 """
 
