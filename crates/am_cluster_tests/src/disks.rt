@@ -11,23 +11,41 @@ use std::test::Fail;
 use std::thread::Threads;
 
 /// A thread whose endpoint begins on disk, worker 0. Worker 1 is the interface, and worker 2 the driver. The first read of the disk fails.
-const ON_DISK: &str =
-    "am2 1\nnetwork packet\nnodes 1\nturns 4\nendpoint 0 0 5 disk\nthread 0 0\nswapfault 0 1\nt0 tag 0 6\n";
+const ON_DISK: &str = "am2 1\n\
+    network packet\n\
+    nodes 1\n\
+    turns 4\n\
+    endpoint 0 0 5 disk\n\
+    thread 0 0\n\
+    swapfault 0 1\n\
+    t0 tag 0 6\n";
 
 /// The thread wants its endpoint, the driver reads twice, and then the thread makes its call.
-const READ_AGAIN_IN_TURNS: &str =
-    "t0 want 0\nd0 pagein 0 -> failed\nd0 pagein 0 -> ok\nt0 tag 0 6 -> ok\n";
+const READ_AGAIN_IN_TURNS: &str = "t0 want 0\n\
+    d0 pagein 0 -> failed\n\
+    d0 pagein 0 -> ok\n\
+    t0 tag 0 6 -> ok\n";
 
 /// The same without turns.
-const ON_DISK_ALONE: &str =
-    "am2 1\nnetwork packet\nnodes 1\nendpoint 0 0 5 disk\nthread 0 0\nswapfault 0 1\nt0 tag 0 6\n";
+const ON_DISK_ALONE: &str = "am2 1\n\
+    network packet\n\
+    nodes 1\n\
+    endpoint 0 0 5 disk\n\
+    thread 0 0\n\
+    swapfault 0 1\n\
+    t0 tag 0 6\n";
 
 const READ_AGAIN_IN_THE_DRAIN: &str =
     "d0 pagein 0 -> failed\nd0 pagein 0 -> ok\nt0 tag 0 6 -> ok\n";
 
 /// Nothing is to stay on the host. Worker 0 is the interface, and worker 1 the driver, whose first write fails.
-const CROWDED: &str =
-    "am2 1\nnetwork packet\nnodes 1\nkeep 0\nturns 3\nendpoint 0 0 5\nswapfault 0 1\n";
+const CROWDED: &str = "am2 1\n\
+    network packet\n\
+    nodes 1\n\
+    keep 0\n\
+    turns 3\n\
+    endpoint 0 0 5\n\
+    swapfault 0 1\n";
 
 const WRITTEN_AGAIN: &str = "d0 pageout 0 -> failed\nd0 pageout 0 -> ok\n";
 

@@ -14,31 +14,76 @@ use std::alloc::Global;
 use std::test::Fail;
 
 /// Two clients on node 0 and a server on node 1, each with a thread that makes its calls.
-const CLIENTS: &str = "am2 1\nnetwork packet\nnodes 2\nframes 2\nchannels 2\nturns 1000\n\
-    endpoint 0 0 11\nendpoint 1 0 12\nendpoint 2 1 20\nthread 0 0\nthread 1 0\nthread 2 1\nplan 0 1 2 lose\n\
-    t0 handler 0 4 note\nt0 map 0 0 2 20 2\nt0 request 0 0 3 100 0 0 0\nt0 poll 0\n\
-    t1 handler 1 4 note\nt1 map 1 0 2 20 2\nt1 request 1 0 3 23 0 0 0\nt1 poll 1\n\
-    t2 handler 2 3 add 4\nt2 poll 2\nt2 poll 2\nt2 poll 2\n";
+const CLIENTS: &str = "am2 1\n\
+    network packet\n\
+    nodes 2\n\
+    frames 2\n\
+    channels 2\n\
+    turns 1000\n\
+    endpoint 0 0 11\n\
+    endpoint 1 0 12\n\
+    endpoint 2 1 20\n\
+    thread 0 0\n\
+    thread 1 0\n\
+    thread 2 1\n\
+    plan 0 1 2 lose\n\
+    t0 handler 0 4 note\n\
+    t0 map 0 0 2 20 2\n\
+    t0 request 0 0 3 100 0 0 0\n\
+    t0 poll 0\n\
+    t1 handler 1 4 note\n\
+    t1 map 1 0 2 20 2\n\
+    t1 request 1 0 3 23 0 0 0\n\
+    t1 poll 1\n\
+    t2 handler 2 3 add 4\n\
+    t2 poll 2\n\
+    t2 poll 2\n\
+    t2 poll 2\n";
 
 /// An interface and a driver on each node, with one turn.
-const ONE_NODE: &str = "am2 1\nnetwork packet\nnodes 1\nturns 1\nendpoint 0 0 5\n";
+const ONE_NODE: &str = "am2 1\n\
+    network packet\n\
+    nodes 1\n\
+    turns 1\n\
+    endpoint 0 0 5\n";
 
-const TWO_NODES: &str = "am2 1\nnetwork packet\nnodes 2\nturns 1\nendpoint 0 0 5\nendpoint 1 1 7\n";
+const TWO_NODES: &str = "am2 1\n\
+    network packet\n\
+    nodes 2\n\
+    turns 1\n\
+    endpoint 0 0 5\n\
+    endpoint 1 1 7\n";
 
 /// A thread that makes three calls, worker 0. Worker 1 is the interface, and worker 2 the driver.
-const ONE_THREAD: &str =
-    "am2 1\nnetwork packet\nnodes 1\nturns 4\nendpoint 0 0 5\nendpoint 1 0 7\nthread 0 0\n\
-    t0 handler 1 1 note\nt0 map 0 0 1 7 1\nt0 request 0 0 1 9 0 0 0\n";
+const ONE_THREAD: &str = "am2 1\n\
+    network packet\n\
+    nodes 1\n\
+    turns 4\n\
+    endpoint 0 0 5\n\
+    endpoint 1 0 7\n\
+    thread 0 0\n\
+    t0 handler 1 1 note\n\
+    t0 map 0 0 1 7 1\n\
+    t0 request 0 0 1 9 0 0 0\n";
 
 /// What these three make of it, each in its turn.
-const FIRST_FIVE: &str =
-    "t0 handler 1 1 note -> ok\nt0 map 0 0 1 7 1 -> ok\nt0 request 0 0 1 9 0 0 0 -> ok 0.1\n\
-    d0 load 0 0\ni0 bind 0 -> sent 0.1 0 0 1 0 1\n";
+const FIRST_FIVE: &str = "t0 handler 1 1 note -> ok\n\
+    t0 map 0 0 1 7 1 -> ok\n\
+    t0 request 0 0 1 9 0 0 0 -> ok 0.1\n\
+    d0 load 0 0\n\
+    i0 bind 0 -> sent 0.1 0 0 1 0 1\n";
 
 /// A thread whose request goes from an endpoint of its node to another one over a link, with turns enough for it to come there.
-const ONE_REQUEST: &str =
-    "am2 1\nnetwork packet\nnodes 1\nturns 200\nendpoint 0 0 5\nendpoint 1 0 7\nthread 0 0\n\
-    t0 handler 1 1 note\nt0 map 0 0 1 7 1\nt0 request 0 0 1 9 0 0 0\n";
+const ONE_REQUEST: &str = "am2 1\n\
+    network packet\n\
+    nodes 1\n\
+    turns 200\n\
+    endpoint 0 0 5\n\
+    endpoint 1 0 7\n\
+    thread 0 0\n\
+    t0 handler 1 1 note\n\
+    t0 map 0 0 1 7 1\n\
+    t0 request 0 0 1 9 0 0 0\n";
 
 /// A worker is held in its turn until another has come to one of its own.
 pub const fn hold(worker: u32, turn: u32, other: u32, its_turn: u32) -> Hold {

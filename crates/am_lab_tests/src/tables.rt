@@ -1,48 +1,113 @@
 //! Texts, and what is told of them by docs/LAB.md.
 
 /// The way of one message, from its request to the run of its handler.
-pub const PATH: &str =
-    "am2 1\nnetwork direct\nnodes 1\nendpoint 0 0 5\nendpoint 1 0 7\nx handler 1 1 note\n\
-    x map 0 0 1 7 1\nx request 0 0 1 10 20 30 40\nx carry 0\nx poll 1\n";
+pub const PATH: &str = "am2 1\n\
+    network direct\n\
+    nodes 1\n\
+    endpoint 0 0 5\n\
+    endpoint 1 0 7\n\
+    x handler 1 1 note\n\
+    x map 0 0 1 7 1\n\
+    x request 0 0 1 10 20 30 40\n\
+    x carry 0\n\
+    x poll 1\n";
 
 /// Its report.
-pub const REPORT: &str =
-    "am2 report 1\nentries 5\nx handler 1 1 note -> ok\nx map 0 0 1 7 1 -> ok\n\
-    x request 0 0 1 10 20 30 40 -> ok 0.1\nx carry 0 -> accepted 0.1\nx poll 1 -> ran 0.1 1 sends 1.1\n\
-    endpoint 0 runs 0\nendpoint 1 runs 1\nrun 0.1 1 10 20 30 40\nmessages 2\nfate 0.1 request ran\n\
-    fate 1.1 empty pending\ntotals ran 1 returned 0 unknown 0 unknown-but-ran 0 pending 1\n";
+pub const REPORT: &str = "am2 report 1\n\
+    entries 5\n\
+    x handler 1 1 note -> ok\n\
+    x map 0 0 1 7 1 -> ok\n\
+    x request 0 0 1 10 20 30 40 -> ok 0.1\n\
+    x carry 0 -> accepted 0.1\n\
+    x poll 1 -> ran 0.1 1 sends 1.1\n\
+    endpoint 0 runs 0\n\
+    endpoint 1 runs 1\n\
+    run 0.1 1 10 20 30 40\n\
+    messages 2\n\
+    fate 0.1 request ran\n\
+    fate 1.1 empty pending\n\
+    totals ran 1 returned 0 unknown 0 unknown-but-ran 0 pending 1\n";
 
 // The report with another last entry, and with another fate.
-const NOT_RUN: &str = "am2 report 1\nentries 5\nx handler 1 1 note -> ok\nx map 0 0 1 7 1 -> ok\n\
-    x request 0 0 1 10 20 30 40 -> ok 0.1\nx carry 0 -> accepted 0.1\nx poll 1 -> empty\n";
+const NOT_RUN: &str = "am2 report 1\n\
+    entries 5\n\
+    x handler 1 1 note -> ok\n\
+    x map 0 0 1 7 1 -> ok\n\
+    x request 0 0 1 10 20 30 40 -> ok 0.1\n\
+    x carry 0 -> accepted 0.1\n\
+    x poll 1 -> empty\n";
 
-const POLLED_ELSEWHERE: &str =
-    "am2 report 1\nentries 5\nx handler 1 1 note -> ok\nx map 0 0 1 7 1 -> ok\n\
-    x request 0 0 1 10 20 30 40 -> ok 0.1\nx carry 0 -> accepted 0.1\nx poll 0 -> empty\n";
+const POLLED_ELSEWHERE: &str = "am2 report 1\n\
+    entries 5\n\
+    x handler 1 1 note -> ok\n\
+    x map 0 0 1 7 1 -> ok\n\
+    x request 0 0 1 10 20 30 40 -> ok 0.1\n\
+    x carry 0 -> accepted 0.1\n\
+    x poll 0 -> empty\n";
 
-const ANOTHER_FATE: &str =
-    "am2 report 1\nentries 5\nx handler 1 1 note -> ok\nx map 0 0 1 7 1 -> ok\n\
-    x request 0 0 1 10 20 30 40 -> ok 0.1\nx carry 0 -> accepted 0.1\nx poll 1 -> ran 0.1 1 sends 1.1\n\
-    endpoint 0 runs 0\nendpoint 1 runs 1\nrun 0.1 1 10 20 30 40\nmessages 2\nfate 0.1 request unknown\n";
+const ANOTHER_FATE: &str = "am2 report 1\n\
+    entries 5\n\
+    x handler 1 1 note -> ok\n\
+    x map 0 0 1 7 1 -> ok\n\
+    x request 0 0 1 10 20 30 40 -> ok 0.1\n\
+    x carry 0 -> accepted 0.1\n\
+    x poll 1 -> ran 0.1 1 sends 1.1\n\
+    endpoint 0 runs 0\n\
+    endpoint 1 runs 1\n\
+    run 0.1 1 10 20 30 40\n\
+    messages 2\n\
+    fate 0.1 request unknown\n";
 
 // A message whose first packet and whose answer are lost: two tries, and a poll runs it.
-const LOST: &str =
-    "am2 1\nnetwork packet\nnodes 1\ntries 2\nendpoint 0 0 5\nendpoint 1 0 7\nthread 0 0\n\
-    plan 0 0 1 lose\nplan 0 0 3 lose\nt0 handler 1 1 note\nt0 map 0 0 1 7 1\nt0 request 0 0 1 9 0 0 0\nt0 poll 1\n";
+const LOST: &str = "am2 1\n\
+    network packet\n\
+    nodes 1\n\
+    tries 2\n\
+    endpoint 0 0 5\n\
+    endpoint 1 0 7\n\
+    thread 0 0\n\
+    plan 0 0 1 lose\n\
+    plan 0 0 3 lose\n\
+    t0 handler 1 1 note\n\
+    t0 map 0 0 1 7 1\n\
+    t0 request 0 0 1 9 0 0 0\n\
+    t0 poll 1\n";
 
-const LOST_REPORT: &str =
-    "am2 report 1\nentries 15\nt0 handler 1 1 note -> ok\nt0 map 0 0 1 7 1 -> ok\n\
-    t0 request 0 0 1 9 0 0 0 -> ok 0.1\nd0 load 0 0\nd0 load 1 1\ni0 bind 0 -> sent 0.1 0 0 1 0 1\n\
-    i0 expire 0 0 -> sent 0.1 0 0 1 1 2\ni0 receive 0 2 -> accepted 0.1 answer 3\ni0 expire 0 0 -> unknown 0.1\n\
-    t0 poll 1 -> ran 0.1 1 sends 1.1\ni0 bind 1 -> sent 1.1 0 0 2 0 4\n\
-    i0 receive 0 4 -> refused 1.1 no-request answer 5\ni0 receive 0 5 -> returned 1.1 no-request\n\
-    x poll 0 -> zero 0.1 unknown\nx poll 1 -> zero 1.1 no-request\nendpoint 0 runs 1\nzero 0.1 unknown\n\
-    endpoint 1 runs 2\nrun 0.1 1 9 0 0 0\nzero 1.1 no-request\nmessages 2\nfate 0.1 request unknown-but-ran\n\
-    fate 1.1 empty returned no-request\ntotals ran 0 returned 1 unknown 0 unknown-but-ran 1 pending 0\n";
+const LOST_REPORT: &str = "am2 report 1\n\
+    entries 15\n\
+    t0 handler 1 1 note -> ok\n\
+    t0 map 0 0 1 7 1 -> ok\n\
+    t0 request 0 0 1 9 0 0 0 -> ok 0.1\n\
+    d0 load 0 0\n\
+    d0 load 1 1\n\
+    i0 bind 0 -> sent 0.1 0 0 1 0 1\n\
+    i0 expire 0 0 -> sent 0.1 0 0 1 1 2\n\
+    i0 receive 0 2 -> accepted 0.1 answer 3\n\
+    i0 expire 0 0 -> unknown 0.1\n\
+    t0 poll 1 -> ran 0.1 1 sends 1.1\n\
+    i0 bind 1 -> sent 1.1 0 0 2 0 4\n\
+    i0 receive 0 4 -> refused 1.1 no-request answer 5\n\
+    i0 receive 0 5 -> returned 1.1 no-request\n\
+    x poll 0 -> zero 0.1 unknown\n\
+    x poll 1 -> zero 1.1 no-request\n\
+    endpoint 0 runs 1\n\
+    zero 0.1 unknown\n\
+    endpoint 1 runs 2\n\
+    run 0.1 1 9 0 0 0\n\
+    zero 1.1 no-request\n\
+    messages 2\n\
+    fate 0.1 request unknown-but-ran\n\
+    fate 1.1 empty returned no-request\n\
+    totals ran 0 returned 1 unknown 0 unknown-but-ran 1 pending 0\n";
 
 // A text with segments.
-const SEGMENTS: &str =
-    "am2 1\nnetwork packet\nnodes 1\nendpoint 0 0 5\nsegment 0 1 8\nthread 0 0\nt0 serve 0 2\n";
+const SEGMENTS: &str = "am2 1\n\
+    network packet\n\
+    nodes 1\n\
+    endpoint 0 0 5\n\
+    segment 0 1 8\n\
+    thread 0 0\n\
+    t0 serve 0 2\n";
 
 /// The words, a scenario and its report or another text, and the status and the text that are answered.
 pub const TOLD: [(&str, &str, &str, u8, &str); 24] = [
@@ -224,8 +289,16 @@ pub const TOLD: [(&str, &str, &str, u8, &str); 24] = [
 ];
 
 /// What a made scenario begins with.
-pub const MADE: &str =
-    "am2 1\nnetwork packet\nnodes 4\nframes 2\nchannels 2\ntries 4\nbounces 3\nkeep 2\nlog 65536\nturns 0\n\
+pub const MADE: &str = "am2 1\n\
+    network packet\n\
+    nodes 4\n\
+    frames 2\n\
+    channels 2\n\
+    tries 4\n\
+    bounces 3\n\
+    keep 2\n\
+    log 65536\n\
+    turns 0\n\
     endpoint 0 0 100\n";
 
 /// Words that ask for nothing.

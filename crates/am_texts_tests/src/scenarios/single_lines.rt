@@ -3,7 +3,10 @@
 use am_lexer::What;
 
 /// Four lines of a step script: two nodes, and endpoint 0 on node 0.
-pub const STEP_HEAD: &str = "am2 1\nnetwork packet\nnodes 2\nendpoint 0 0 5\n";
+pub const STEP_HEAD: &str = "am2 1\n\
+    network packet\n\
+    nodes 2\n\
+    endpoint 0 0 5\n";
 
 /// Fifth lines of a step script, behind `STEP_HEAD`.
 pub static STEP_LINES: [(&str, What); 84] = [
@@ -94,8 +97,14 @@ pub static STEP_LINES: [(&str, What); 84] = [
 ];
 
 /// Eight lines of a run: endpoints 0 and 1 on nodes 0 and 1, each with a thread, and a bundle of endpoint 0.
-pub const RUN_HEAD: &str =
-    "am2 1\nnetwork packet\nnodes 2\nendpoint 0 0 5\nendpoint 1 1 6\nbundle 0 notempty 0\nthread 0 0\nthread 1 1\n";
+pub const RUN_HEAD: &str = "am2 1\n\
+    network packet\n\
+    nodes 2\n\
+    endpoint 0 0 5\n\
+    endpoint 1 1 6\n\
+    bundle 0 notempty 0\n\
+    thread 0 0\n\
+    thread 1 1\n";
 
 /// Ninth lines of a run, behind `RUN_HEAD`.
 pub static RUN_LINES: [(&str, What); 25] = [

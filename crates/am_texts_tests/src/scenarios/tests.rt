@@ -140,8 +140,21 @@ fn one_line_too_many(rt: HostRuntime) -> Result<(), Fail> {
     Ok(())
 }
 
-const VERSION_2: &str =
-    "am2 2\nnetwork packet\nnodes 2\ntries 5\npool 3\nendpoint 7 1 all disk\nendpoint 2 0 none\nbundle 1 notempty 2\nthread 9 1\nthread 3 0\nplan 0 1 4 late 2\nswapfault 1 6\nt3 pollb 1\nt3 eventb 1\nt9 map 7 0 2 5 0\n";
+const VERSION_2: &str = "am2 2\n\
+    network packet\n\
+    nodes 2\n\
+    tries 5\n\
+    pool 3\n\
+    endpoint 7 1 all disk\n\
+    endpoint 2 0 none\n\
+    bundle 1 notempty 2\n\
+    thread 9 1\n\
+    thread 3 0\n\
+    plan 0 1 4 late 2\n\
+    swapfault 1 6\n\
+    t3 pollb 1\n\
+    t3 eventb 1\n\
+    t9 map 7 0 2 5 0\n";
 
 // Whether the settings are those of `VERSION_2`.
 fn has_settings(run: &Scenario) -> bool {
