@@ -22,10 +22,6 @@ pub struct BitSet {
 
 impl BitSet {
     /// No place.
-    ///
-    /// ```
-    /// let mut marks = BitSet::new();
-    /// ```
     pub fn new() -> BitSet
         ensures { (k : ℕ) → is_marked result k ≡ false }
     {
@@ -33,10 +29,6 @@ impl BitSet {
     }
 
     /// From now on a place is in the set exactly where this says so. The others stay.
-    ///
-    /// ```
-    /// marks.set(7, true);
-    /// ```
     pub fn set(&mut self, place: usize, marked: bool)
         requires { place < 256 }
         ensures { (k : ℕ) → is_marked self.new k ≡ (if k == place then marked else is_marked self.old k) }
@@ -46,10 +38,6 @@ impl BitSet {
     }
 
     /// The least place of the set at or behind a place. None exactly where there is none.
-    ///
-    /// ```
-    /// let behind = marks.next(8);
-    /// ```
     pub fn next(&self, from: usize) -> Option<usize>
         ensures { IsNextMark self.now from result }
     {

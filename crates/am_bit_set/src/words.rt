@@ -1,4 +1,5 @@
-// The bits of a word, and of words in a row.
+//! The bits of a word, and of words in a row.
+
 ghost use Rattle.am_bit_set.specs.Bits.{IsNext, bit_in};
 ghost use Rattle.std.specs.Int.{bit_at};
 ghost use Rattle.std.specs.Prelude.{◌≡◌, ◌≢◌, ℕ, ◌*◌, ◌<◌, IfSome, cond, length};

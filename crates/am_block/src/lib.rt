@@ -19,10 +19,6 @@ use std::alloc::{AllocError, Global};
 use std::marker::Model;
 
 /// What is kept of a message.
-///
-/// ```
-/// block.get_mut(slot).used += 1;
-/// ```
 #[derive(Clone, Copy)]
 pub struct Descriptor {
     pub message: Message,
@@ -56,10 +52,6 @@ pub enum List {
 }
 
 /// The number of a descriptor in its block, from 0, below the block's size.
-///
-/// ```
-/// let message = block.get(Slot(3)).message;
-/// ```
 #[derive(Clone, Copy, PartialEq, Eq, Debug)]
 pub struct Slot(pub u8);
 
@@ -182,10 +174,6 @@ impl Block {
     }
 
     /// A block of `size` descriptors, 1 to 128, all of them free. What a free descriptor holds is not said.
-    ///
-    /// ```
-    /// let mut block = Block::new(alloc, 24)?;
-    /// ```
     pub fn new(alloc: Global, size: u8) -> Result<Block, NoMemory>
         requires { (1 ≤ size) × (size ≤ 128) }
         ensures fresh { IfOk result (λ b. IsFresh b size) }
@@ -198,10 +186,6 @@ impl Block {
     }
 
     /// The number of slots in a list.
-    ///
-    /// ```
-    /// let waiting = block.len(List::Requests);
-    /// ```
     pub fn len(&self, list: List) -> u8
         ensures value { result ≡ length (slots self.now list) }
         ensures block { IsBlock self.now }
@@ -248,10 +232,6 @@ impl Block {
     }
 
     /// Moves the first slot of one list to the tail of another, or of the same.
-    ///
-    /// ```
-    /// let taken = block.move_front(List::Free, List::Received);
-    /// ```
     pub fn move_front(&mut self, from: List, to: List) -> Option<Slot>
         ensures none { (result ≡ None) ↔ (slots self.old from ≡ []) }
         ensures slot { MatchOption result (slots self.old from ≡ []) (λ s. slots self.old from ≡ s.0 ∷ drop 1 (slots self.old from)) }
@@ -272,10 +252,6 @@ impl Block {
     }
 
     /// Takes a slot out of its list and appends it to another, or to the same.
-    ///
-    /// ```
-    /// block.move_slot(slot, List::Free);
-    /// ```
     pub fn move_slot(&mut self, slot: Slot, to: List)
         requires { slot.0 < size self.old }
         ensures moved { self.new ≡ moved self.old (home self.old slot.0) slot.0 to }
@@ -293,10 +269,6 @@ impl Block {
     }
 
     /// The descriptor of a slot.
-    ///
-    /// ```
-    /// let message = block.get(slot).message;
-    /// ```
     pub fn get(&self, slot: Slot) -> &Descriptor
         requires { slot.0 < size self.now }
         ensures { slice_get self.now.descriptors slot.0 ≡ Some result.now }

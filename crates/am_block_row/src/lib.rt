@@ -15,10 +15,6 @@ use std::marker::{Model, PhantomData, Send, Sync};
 use std::mem::{align_of, size_of};
 
 /// Where a row begins. It owns nothing.
-///
-/// ```
-/// let spot = row.pointer(base, 0);
-/// ```
 pub struct Base<T> {
     pub ptr: *mut T,
 }
@@ -77,10 +73,6 @@ unsafe impl<T: Send> Send for Row<T> {}
 unsafe impl<T: Sync> Sync for Row<T> {}
 
 /// The right to give the memory of `len` places at `at` back to `alloc`, once. It takes no space.
-///
-/// ```
-/// deallocate(&alloc, base, 8, row, deed);
-/// ```
 pub struct Deed<T, A: Allocator> {
     mark: PhantomData<*const (T, A)>,
     pub ghost at: { Ptr },
@@ -100,10 +92,6 @@ unsafe impl<T, A: Allocator + Send> Send for Deed<T, A> {}
 unsafe impl<T, A: Allocator> Sync for Deed<T, A> {}
 
 /// Takes memory for `len` places, all empty. `Err` says that there was none.
-///
-/// ```
-/// let (base, mut row, deed) = allocate::<u32, Global>(&alloc, 8)?;
-/// ```
 pub fn allocate<T, A: Allocator>(
     alloc: &A,
     len: usize,
@@ -124,10 +112,6 @@ pub fn allocate<T, A: Allocator>(
 }
 
 /// Gives the memory of a row back, whose places are all empty.
-///
-/// ```
-/// deallocate(&alloc, base, 8, row, deed);
-/// ```
 pub fn deallocate<T, A: Allocator>(
     alloc: &A,
     base: Base<T>,
@@ -148,10 +132,6 @@ impl<T> Row<T> {
     ghost use Rattle.am_block_row.specs.Lends.{LendsItem};
 
     /// Where place `index` lies.
-    ///
-    /// ```
-    /// let spot = row.pointer(base, 2);
-    /// ```
     pub fn pointer(&self, base: Base<T>, index: usize) -> Spot
         requires { (base.ptr ≡ self.now.at) × (index < length self.now.places) }
         ensures { result.ptr ≡ place_at T.row self.now.at index }
@@ -162,10 +142,6 @@ impl<T> Row<T> {
     }
 
     /// Moves an item into place `index`, which lies at the spot and is empty.
-    ///
-    /// ```
-    /// row.fill(spot, 2, item);
-    /// ```
     pub fn fill(&mut self, spot: Spot, index: usize, item: T)
         requires { (spot.ptr ≡ place_at T.row self.old.at index) × (index < length self.old.places) × (get_or self.old.places index None ≡ None) }
         ensures { (self.new.at ≡ self.old.at) × (self.new.places ≡ slice_set self.old.places index (Some item)) }
@@ -175,10 +151,6 @@ impl<T> Row<T> {
     }
 
     /// Moves the item out of place `index`, which lies at the spot.
-    ///
-    /// ```
-    /// let item = row.take(spot, 2);
-    /// ```
     pub fn take(&mut self, spot: Spot, index: usize) -> T
         requires { (spot.ptr ≡ place_at T.row self.old.at index) × IsFilled self.old.places index }
         ensures item { get_or self.old.places index None ≡ Some result }
@@ -189,10 +161,6 @@ impl<T> Row<T> {
     }
 
     /// The item of place `index`, which lies at the spot.
-    ///
-    /// ```
-    /// let item = row.follow(spot, 2);
-    /// ```
     pub fn follow(&self, spot: Spot, index: usize) -> &T
         requires { (spot.ptr ≡ place_at T.row self.now.at index) × IsFilled self.now.places index }
         ensures { get_or self.now.places index None ≡ Some result.now }
@@ -202,10 +170,6 @@ impl<T> Row<T> {
     }
 
     /// The item of place `index`, which lies at the spot, to be written to.
-    ///
-    /// ```
-    /// *row.follow_mut(spot, 2) = item;
-    /// ```
     pub fn follow_mut(&mut self, spot: Spot, index: usize) -> &mut T
         requires { (spot.ptr ≡ place_at T.row self.old.at index) × IsFilled self.old.places index }
         ensures* writes_back { sem 𝓛 (LendsItem T.row self.entry index result) }
@@ -216,10 +180,6 @@ impl<T> Row<T> {
     }
 
     /// The item of place `index`.
-    ///
-    /// ```
-    /// let item = row.get(base, 2);
-    /// ```
     pub fn get(&self, base: Base<T>, index: usize) -> &T
         requires { (base.ptr ≡ self.now.at) × IsFilled self.now.places index }
         ensures { get_or self.now.places index None ≡ Some result.now }
@@ -228,10 +188,6 @@ impl<T> Row<T> {
     }
 
     /// The item of place `index`, to be written to.
-    ///
-    /// ```
-    /// *row.get_mut(base, 2) = item;
-    /// ```
     pub fn get_mut(&mut self, base: Base<T>, index: usize) -> &mut T
         requires { (base.ptr ≡ self.old.at) × IsFilled self.old.places index }
         ensures* writes_back { sem 𝓛 (LendsItem T.row self.entry index result) }
@@ -242,10 +198,6 @@ impl<T> Row<T> {
     }
 
     /// Moves an item into place `index`, which is empty.
-    ///
-    /// ```
-    /// row.write(base, 2, item);
-    /// ```
     pub fn write(&mut self, base: Base<T>, index: usize, item: T)
         requires { (base.ptr ≡ self.old.at) × (index < length self.old.places) × (get_or self.old.places index None ≡ None) }
         ensures { (self.new.at ≡ self.old.at) × (self.new.places ≡ slice_set self.old.places index (Some item)) }
@@ -255,10 +207,6 @@ impl<T> Row<T> {
     }
 
     /// Moves the item out of place `index`.
-    ///
-    /// ```
-    /// let item = row.read(base, 2);
-    /// ```
     pub fn read(&mut self, base: Base<T>, index: usize) -> T
         requires { (base.ptr ≡ self.old.at) × IsFilled self.old.places index }
         ensures item { get_or self.old.places index None ≡ Some result }

@@ -1,4 +1,5 @@
-// Both ends.
+//! Both ends.
+
 ghost use Rattle.am_channel.specs.Ends.{new_ends};
 ghost use Rattle.std.specs.Prelude.{◌≡◌};
 
@@ -19,10 +20,6 @@ pub struct Ends {
 
 impl Ends {
     /// Ends on which nothing was bound and nothing decided.
-    ///
-    /// ```
-    /// let ends = Ends::new();
-    /// ```
     pub fn new() -> Ends
         ensures { result ≡ new_ends }
     {

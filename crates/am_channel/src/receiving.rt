@@ -1,4 +1,5 @@
-// The receiving end.
+//! The receiving end.
+
 ghost use Rattle.am_channel.specs.Receiving.{IsAgain, IsFresh, IsStale, arrival_of};
 ghost use Rattle.am_model.specs.Channels.{arrival};
 ghost use Rattle.std.specs.Prelude.{◌≡◌, ◌≤◌, ◌↔◌};
@@ -27,10 +28,6 @@ pub enum Arrival {
 
 /// The receiving end of a channel. Contracts see it as its `Mark`: the sequence and the attempt of the last parcel that
 /// was decided on, and the verdict on it.
-///
-/// ```
-/// let mut end = RecvEnd::new();
-/// ```
 #[derive(Clone, Copy, PartialEq, Eq, Debug)]
 pub struct RecvEnd {
     seq: u32,
@@ -50,10 +47,6 @@ impl Model for RecvEnd {
 
 impl RecvEnd {
     /// An end that decided on nothing: its mark is sequence 0, attempt 0, refused.
-    ///
-    /// ```
-    /// let mut end = RecvEnd::new();
-    /// ```
     pub fn new() -> RecvEnd
         ensures { result ≡ record { seq = 0; attempt = 0; verdict = Verdict.Refused Cause.NoRequest } }
     {
@@ -65,10 +58,6 @@ impl RecvEnd {
     }
 
     /// What a parcel is that arrives (`arrival` of am_model's `specs/Channels.antt`).
-    ///
-    /// ```
-    /// let is_new = end.arrive(&parcel) == Arrival::Fresh;
-    /// ```
     pub fn arrive(&self, packet: &Parcel) -> Arrival
         requires { 1 ≤ packet.now.seq }
         ensures table { arrival_of result ≡ arrival self.now packet.now.seq packet.now.attempt }
@@ -95,10 +84,6 @@ impl RecvEnd {
     }
 
     /// Keeps the verdict on a fresh parcel.
-    ///
-    /// ```
-    /// end.decided(&parcel, Verdict::Accepted);
-    /// ```
     pub fn decided(&mut self, packet: &Parcel, verdict: Verdict)
         requires fresh { IsFresh self.old packet.now.seq packet.now.attempt }
         ensures { self.new ≡ record { seq = packet.now.seq; attempt = packet.now.attempt; verdict = verdict } }

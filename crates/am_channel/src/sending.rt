@@ -1,4 +1,5 @@
-// The sending end.
+//! The sending end.
+
 ghost use Rattle.am_channel.specs.Sending.{CountsForNothing, bound_after, bound_to, settled, timed_out, unanswered};
 ghost use Rattle.std.specs.Prelude.{◌≡◌, ◌+◌, ◌-◌, ◌<◌, ◌≤◌, ◌^◌, ◌↔◌, IfSome, IsNone, IsSome, None};
 
@@ -90,10 +91,6 @@ impl Model for SendEnd {
 
 impl SendEnd {
     /// An end that was never bound.
-    ///
-    /// ```
-    /// let mut end = SendEnd::new();
-    /// ```
     pub fn new() -> SendEnd
         ensures { result ≡ record { seq = 0; bound = None } }
     {
@@ -104,10 +101,6 @@ impl SendEnd {
     }
 
     /// The message that is bound. None exactly where the end is idle.
-    ///
-    /// ```
-    /// let is_free = end.busy().is_none();
-    /// ```
     pub fn busy(&self) -> Option<Bound>
         ensures bound { result ≡ self.now.bound }
         ensures idle { (result ≡ None) ↔ IsNone self.now.bound }
@@ -116,10 +109,6 @@ impl SendEnd {
     }
 
     /// The sequence: how often it was bound.
-    ///
-    /// ```
-    /// let sequence = end.seq();
-    /// ```
     pub fn seq(&self) -> u32
         ensures { result ≡ self.now.seq }
     {
@@ -184,10 +173,6 @@ impl SendEnd {
     /// Takes an answer. One that accepts counts where it is to the current sequence of a bound message, on whatever
     /// attempt; one that refuses counts where its attempt is the current one too. Where it counts the end is idle after
     /// it, and else as it was.
-    ///
-    /// ```
-    /// let settled = end.answer(&packet);
-    /// ```
     pub fn answer(&mut self, packet: &AnswerPacket) -> Settled
         ensures settled { result ≡ settled self.old packet.now }
         ensures nothing { (result ≡ Settled.Nothing) ↔ CountsForNothing self.old packet.now }

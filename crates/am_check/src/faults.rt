@@ -1,3 +1,5 @@
+//! What is wrong with a report.
+
 use am_office_entries::{Condition, Part};
 use am_scenario::ScenarioFault;
 use thiserror::Error;

@@ -1,4 +1,5 @@
-// The journal of a run, kept in the logs of its cluster.
+//! The journal of a run, kept in the logs of its cluster.
+
 ghost use Rattle.std.specs.Prelude.{◌≡◌, IfOk};
 
 use am_machine::Cluster;

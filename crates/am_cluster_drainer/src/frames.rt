@@ -1,4 +1,5 @@
-// Making endpoints ready to send and to receive.
+//! Making endpoints ready to send and to receive.
+
 ghost use Rattle.am_model_drain.specs.Ready as plan;
 ghost use Rattle.am_cluster_drainer.specs.Choices.{first_read, is_neither, is_open_on_host, passes_head, unloaded_by};
 ghost use Rattle.am_cluster_drainer.specs.Reads.{head_of, is_seat};

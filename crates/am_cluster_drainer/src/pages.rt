@@ -1,4 +1,5 @@
-// Taking endpoints off the disk.
+//! Taking endpoints off the disk.
+
 ghost use Rattle.am_model_drain.specs.Made.{after_event_if};
 ghost use Rattle.am_model_drain.specs.Ready as plan;
 ghost use Rattle.am_cluster_drainer.specs.Reads.{is_seat};

@@ -1,4 +1,5 @@
-// The six rules, and the turn of the first that applies.
+//! The six rules, and the turn of the first that applies.
+
 ghost use Rattle.am_model_drain.specs.Rules as rules;
 ghost use Rattle.am_cluster_drainer.specs.Choices.{first_read, send_by, sends_request};
 ghost use Rattle.am_cluster_drainer.specs.Firsts.{shows};

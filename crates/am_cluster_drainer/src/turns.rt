@@ -1,4 +1,5 @@
-// Doing a turn.
+//! Doing a turn.
+
 ghost use Rattle.am_model_drain.specs.Drain.{after_turn};
 ghost use Rattle.am_cluster_drainer.specs.Choices.{sent_to};
 ghost use Rattle.am_cluster_drainer.specs.Reads.{call_event, is_seat, is_turn_in_range};

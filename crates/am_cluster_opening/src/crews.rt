@@ -1,4 +1,5 @@
-// The crew of a node is made of what its workers begin with and of its links.
+//! The crew of a node is made of what its workers begin with and of its links.
+
 ghost use Rattle.am_cluster_opening.specs.Crews.{AreCrews, AreLinked, AreNumbered, IsCrew, IsUnused};
 ghost use Rattle.am_cluster_opening.specs.Making.{AreNodeLinks};
 ghost use Rattle.am_wire.specs.AllLinks.Links.{AreLinks};

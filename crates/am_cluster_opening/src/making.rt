@@ -1,4 +1,5 @@
-// A worker is made of its seat and what it has beside.
+//! A worker is made of its seat and what it has beside.
+
 ghost use Rattle.am_cluster_opening.specs.Making.{AreSeated, AreThreadsMade, IsThreadMade};
 ghost use Rattle.std.specs.Prelude.{◌≡◌, ◌+◌, ◌<◌, IfOk, Some, length, slice_get};
 

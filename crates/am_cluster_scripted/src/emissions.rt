@@ -1,4 +1,5 @@
-// The packets that a cluster emits and its links release.
+//! The packets that a cluster emits and its links release.
+
 ghost use Rattle.am_office_entries.specs.Logged.Behind.{entries_behind};
 ghost use Rattle.am_cluster_scripted.specs.Links.{AreFed, HasAllRoom, IsSpared, released_in};
 ghost use Rattle.am_cluster_scripted.specs.Scripted.{AreParts, fed_by, fed_on};

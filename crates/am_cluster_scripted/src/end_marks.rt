@@ -1,4 +1,5 @@
-// Which endpoints show what the rules choose from, by their places: read off an endpoint when an entry touches it.
+//! Which endpoints show what the rules choose from, by their places: read off an endpoint when an entry touches it.
+
 ghost use Rattle.am_cluster_scripted.specs.EndMarks.{AreMarked, AreNone, HasPlace, MarksEnd, MarksPlace, MarksTouched};
 ghost use Rattle.am_cluster_scripted.specs.Scripted.{AreParts};
 ghost use Rattle.am_model_scripts.specs.Layout.{layout_of};

@@ -1,4 +1,5 @@
-// What a drain finds first: from the marks, and not from a look at each endpoint, link and channel.
+//! What a drain finds first: from the marks, and not from a look at each endpoint, link and channel.
+
 ghost use Rattle.am_model_drain.specs.Rules.{next_page_in};
 ghost use Rattle.am_laws_runs.specs.Turns.Work.{work};
 ghost use Rattle.am_cluster_drainer.specs.Falling.{TurnFalls};

@@ -1,5 +1,6 @@
-// What each link has released, and what it holds back: so the packet that is due is found without a look at the others.
-// A link is a stage that takes the numbers of its packets.
+//! What each link has released, and what it holds back: so the packet that is due is found without a look at the others.
+//! A link is a stage that takes the numbers of its packets.
+
 ghost use Rattle.am_cluster_scripted.specs.Links.{HasAllRoom, HasSpare, HasSpareAt, IsSpared, fed, fed_at, nothing, released_in};
 ghost use Rattle.std.specs.Prelude.{◌≡◌, ℕ, ◌+◌, ◌*◌, ◌<◌, ◌^◌, All, IfOk, OnOk, length, map, slice_get, slice_index_or, vec_len};
 

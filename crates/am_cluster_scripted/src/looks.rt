@@ -1,4 +1,5 @@
-// What a drain reads of the endpoints and channels of a cluster.
+//! What a drain reads of the endpoints and channels of a cluster.
+
 ghost use Rattle.am_cluster_scripted.specs.Scripted.{AreParts};
 ghost use Rattle.am_model_drain.specs.Rules.{next_page_in};
 ghost use Rattle.am_cluster_drainer.specs.Reads.{head_of, is_seat, mail_of};

@@ -1,4 +1,5 @@
-// Between which nodes something is due, and which have a bound channel: read again for the two nodes of an entry.
+//! Between which nodes something is due, and which have a bound channel: read again for the two nodes of an entry.
+
 ghost use Rattle.am_cluster_scripted.specs.Links.{AreFed, released_in};
 ghost use Rattle.am_cluster_scripted.specs.PairMarks.{ArePaired, ArePairsAgain, IsPairAgain, IsPlaceAgain, IsReadAgain, IsWithin, pair_at, passes_in};
 ghost use Rattle.am_cluster_scripted.specs.Scripted.{AreParts};

@@ -1,4 +1,5 @@
-// What the plan says of the packets of each link, found without a look at its other lines.
+//! What the plan says of the packets of each link, found without a look at its other lines.
+
 ghost use Rattle.am_cluster_scripted.specs.Plans.{AreOfLinks, HasFaults};
 ghost use Rattle.am_scenario_plan.specs.Shape.{fault_at};
 ghost use Rattle.am_scenario_plan.specs.declared.plan.PlanLine.{PlanLine};

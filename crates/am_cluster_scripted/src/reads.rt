@@ -1,4 +1,5 @@
-// What a drain reads of an endpoint of a cluster.
+//! What a drain reads of an endpoint of a cluster.
+
 ghost use Rattle.am_endpoint.specs.View.{state_after};
 ghost use Rattle.am_cluster_scripted.specs.EndMarks.{told_front, told_missed};
 ghost use Rattle.am_model.specs.Changes.{has_arrivals};

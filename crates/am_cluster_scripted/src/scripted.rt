@@ -1,4 +1,5 @@
-// A cluster that runs the scripts of a scenario: the machine of a drain.
+//! A cluster that runs the scripts of a scenario: the machine of a drain.
+
 ghost use Rattle.am_cluster_scripted.specs.EndMarks.{AreMarked};
 ghost use Rattle.am_cluster_scripted.specs.Links.{AreFed, IsSpared, released_in};
 ghost use Rattle.am_cluster_scripted.specs.PairMarks.{ArePaired};

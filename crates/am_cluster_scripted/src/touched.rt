@@ -1,4 +1,5 @@
-// What an entry touches: the endpoints, and the pair of nodes whose channels and links it may change.
+//! What an entry touches: the endpoints, and the pair of nodes whose channels and links it may change.
+
 ghost use Rattle.am_office_entries.specs.Entries as does;
 ghost use Rattle.am_cluster_scripted.specs.Touched.{both, listed, pair_touched, touched_by_receipt};
 ghost use Rattle.std.specs.Prelude.{◌≡◌};

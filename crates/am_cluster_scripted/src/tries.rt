@@ -1,4 +1,5 @@
-// Which entries are left to the end, told before they are made.
+//! Which entries are left to the end, told before they are made.
+
 ghost use Rattle.am_model_scripts.specs.Layout.{layout_of};
 ghost use Rattle.am_model.specs.History.{is_in_range};
 ghost use Rattle.am_model.specs.Layout as layouts;

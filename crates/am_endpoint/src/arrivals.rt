@@ -1,4 +1,5 @@
-// The verdict of an endpoint on a message that arrives.
+//! The verdict of an endpoint on a message that arrives.
+
 ghost use Rattle.am_endpoint.specs.Seen.{state_in};
 ghost use Rattle.am_model.specs.Endpoint.{is_waited_for, verdict};
 ghost use Rattle.std.specs.Prelude.{◌≡◌, cond};

@@ -1,4 +1,5 @@
-// What comes of a call, and what it makes of the state of an endpoint.
+//! What comes of a call, and what it makes of the state of an endpoint.
+
 ghost use Rattle.am_endpoint.specs.Done.{done};
 ghost use Rattle.am_endpoint.specs.Seen.{state_in};
 ghost use Rattle.am_model.specs.Allowed.{are_numbers_in_range};

@@ -1,4 +1,5 @@
-// What it makes of the state of an endpoint that its front message leaves.
+//! What it makes of the state of an endpoint that its front message leaves.
+
 ghost use Rattle.am_endpoint_body.specs.Flights.{front_aloft};
 ghost use Rattle.am_endpoint_body.specs.Views.{Fits};
 ghost use Rattle.am_endpoint.specs.Seen.{state_in};

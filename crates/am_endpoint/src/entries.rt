@@ -1,4 +1,5 @@
-// What each entry makes of the state of an endpoint.
+//! What each entry makes of the state of an endpoint.
+
 ghost use Rattle.am_endpoint_body.specs.Views.{Fits};
 ghost use Rattle.am_endpoint.specs.Events.{keeps_flights};
 ghost use Rattle.am_endpoint.specs.Seen.{state_in};

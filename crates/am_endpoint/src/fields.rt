@@ -1,4 +1,5 @@
-// Where an endpoint in memory lies, and its body.
+//! Where an endpoint in memory lies, and its body.
+
 ghost use Rattle.am_endpoint.specs.Seen.{state_in};
 ghost use Rattle.am_model.specs.Changes.{paged_out, wanted_on_host};
 ghost use Rattle.am_office_entries.specs.declared.Outcome.TheVariants as Out;

@@ -1,4 +1,5 @@
-// What becomes of the messages that an endpoint has in flight.
+//! What becomes of the messages that an endpoint has in flight.
+
 ghost use Rattle.am_block.specs.Pools.{without};
 ghost use Rattle.am_endpoint.specs.Flights.{IsSlotOf};
 ghost use Rattle.am_endpoint.specs.Seen.{state_in};

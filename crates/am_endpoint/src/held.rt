@@ -1,4 +1,5 @@
-// What an endpoint keeps of its state, in memory and on disk.
+//! What an endpoint keeps of its state, in memory and on disk.
+
 ghost use Rattle.am_endpoint.specs.Held.{IsHeldOf, head_of, held_wanted};
 ghost use Rattle.am_model.specs.Endpoint.{fresh};
 ghost use Rattle.std.specs.Prelude.{◌≡◌, IfOk};

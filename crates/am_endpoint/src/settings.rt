@@ -1,4 +1,5 @@
-// Why an endpoint did not make a call.
+//! Why an endpoint did not make a call.
+
 use thiserror::Error;
 
 /// Why a logged call did nothing.

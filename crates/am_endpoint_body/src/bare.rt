@@ -1,4 +1,5 @@
-// A body of its counts and tables.
+//! A body of its counts and tables.
+
 ghost use Rattle.am_endpoint_body.specs.Parts.{bare_body};
 ghost use Rattle.am_handlers.specs.Handlers.{IsTable as IsHandlers};
 ghost use Rattle.am_translate.specs.Tables.{IsTable};

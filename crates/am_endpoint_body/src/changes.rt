@@ -1,4 +1,5 @@
-// What arrivals, runs and returns make of a body.
+//! What arrivals, runs and returns make of a body.
+
 ghost use Rattle.am_endpoint_body.specs.Replies.{reply_ran};
 ghost use Rattle.am_endpoint_body.specs.Views.{on_host, slots_held};
 ghost use Rattle.am_model.specs.Changes.{noticed, put, request_ran};

@@ -1,4 +1,5 @@
-// The messages of a body as lists of their own.
+//! The messages of a body as lists of their own.
+
 ghost use Rattle.am_block.specs.Pools.{size, slots};
 ghost use Rattle.am_block.specs.declared.Descriptor.{Descriptor as Described};
 ghost use Rattle.am_endpoint_body.specs.Views.{message_in, notice_in, queued_in, seen};

@@ -1,4 +1,5 @@
-// Messages of its own that an endpoint has in flight.
+//! Messages of its own that an endpoint has in flight.
+
 ghost use Rattle.am_block.specs.Pools.{without};
 ghost use Rattle.am_endpoint_body.specs.Flights.{flight_noticed, front_aloft, slot_of};
 ghost use Rattle.am_endpoint_body.specs.Views.{flying_in};

@@ -1,4 +1,5 @@
-// What an endpoint holds, in numbers.
+//! What an endpoint holds, in numbers.
+
 ghost use Rattle.am_endpoint_body.specs.Views.{on_host};
 ghost use Rattle.am_model.specs.Calls.{busy_refusal, messages_held};
 ghost use Rattle.am_model.specs.Changes.{has_arrivals, has_queued};

@@ -1,4 +1,5 @@
-// Where the requests of an endpoint go.
+//! Where the requests of an endpoint go.
+
 ghost use Rattle.am_endpoint_body.specs.Refusals.{of_map, of_unmap};
 ghost use Rattle.am_endpoint_body.specs.Views.{on_host};
 ghost use Rattle.am_model.specs.Calls.{map_refusal, unmap_refusal};

@@ -1,4 +1,5 @@
-// Slots of a block that go from list to list.
+//! Slots of a block that go from list to list.
+
 ghost use Rattle.am_block.specs.Pools.{IsBlock, home, size, slots};
 ghost use Rattle.am_endpoint_body.specs.Moves.{changed, filed, first_of, first_slot, freed, refiled};
 ghost use Rattle.std.specs.Option.{option_map};

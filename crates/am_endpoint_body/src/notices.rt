@@ -1,4 +1,5 @@
-// Messages of its own that came back to an endpoint.
+//! Messages of its own that came back to an endpoint.
+
 ghost use Rattle.am_endpoint_body.specs.Views.{notice_in, slots_held};
 ghost use Rattle.std.specs.Prelude.{◌≡◌, ◌<◌, [], ◌∷◌, ◌++◌, drop, slice_get};
 

@@ -1,4 +1,5 @@
-// What an endpoint polls.
+//! What an endpoint polls.
+
 ghost use Rattle.am_endpoint_body.specs.Views.{on_host};
 ghost use Rattle.am_model.specs.Calls.{poll, poll_requests};
 ghost use Rattle.am_model.specs.Changes.{called};

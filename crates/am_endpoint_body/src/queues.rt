@@ -1,4 +1,5 @@
-// Messages of its own that an endpoint has to send.
+//! Messages of its own that an endpoint has to send.
+
 ghost use Rattle.am_block.specs.declared.List.TheVariants as Which;
 ghost use Rattle.am_endpoint_body.specs.Views.{queued_in, slots_held};
 ghost use Rattle.am_model.specs.Changes.{bounces_of, queued, without_front};

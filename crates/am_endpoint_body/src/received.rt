@@ -1,4 +1,5 @@
-// Messages that an endpoint received.
+//! Messages that an endpoint received.
+
 ghost use Rattle.am_endpoint_body.specs.Views.{slots_held};
 ghost use Rattle.am_model.specs.Choice.{without_first};
 ghost use Rattle.am_names.specs.Names.{is_reply, is_request};

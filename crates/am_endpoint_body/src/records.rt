@@ -1,4 +1,5 @@
-// The records of the requests whose replies an endpoint awaits.
+//! The records of the requests whose replies an endpoint awaits.
+
 ghost use Rattle.am_model.specs.Changes.{without_waiting, without_record, with_arrived};
 ghost use Rattle.am_translate.specs.Tables.{IsTable, with_awaited};
 ghost use Rattle.am_model.specs.Endpoint.{waits_for};

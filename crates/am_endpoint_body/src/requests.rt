@@ -1,4 +1,5 @@
-// The requests that an endpoint makes.
+//! The requests that an endpoint makes.
+
 ghost use Rattle.am_endpoint_body.specs.Refusals.{of_credit};
 ghost use Rattle.am_endpoint_body.specs.Views.{on_host, table_of};
 ghost use Rattle.am_model.specs.Calls.{new_request, new_serial, request_refusal};

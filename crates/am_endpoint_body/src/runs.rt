@@ -1,4 +1,5 @@
-// Handlers of an endpoint that run.
+//! Handlers of an endpoint that run.
+
 ghost use Rattle.am_endpoint_body.specs.Views.{on_host};
 ghost use Rattle.am_endpoint_body.specs.Replies.{made_by};
 ghost use Rattle.am_model.specs.Calls.{answer, handler_refusal, handler_run, sum_after};

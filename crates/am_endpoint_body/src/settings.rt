@@ -1,4 +1,5 @@
-// What an endpoint begins with.
+//! What an endpoint begins with.
+
 use am_names::{EndpointId, NodeId, Tag};
 use am_office_entries::Place;
 

@@ -1,4 +1,5 @@
-// The own tag of an endpoint.
+//! The own tag of an endpoint.
+
 ghost use Rattle.am_names.specs.Rules.{matches};
 ghost use Rattle.std.specs.Prelude.{◌≡◌, ◌==◌};
 

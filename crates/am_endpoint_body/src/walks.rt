@@ -1,4 +1,5 @@
-// Walks along a list of a block.
+//! Walks along a list of a block.
+
 ghost use Rattle.am_block.specs.Pools.{IsBlock, size, slots};
 ghost use Rattle.am_endpoint_body.specs.Walks.{answered_at, answered_by, is_sought, is_sought_at};
 ghost use Rattle.am_names.specs.Names.{has_serial};

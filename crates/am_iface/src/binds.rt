@@ -1,4 +1,5 @@
-// Binds of an endpoint's front message to a channel.
+//! Binds of an endpoint's front message to a channel.
+
 ghost use Rattle.am_block.specs.declared.Slot.{Slot};
 ghost use Rattle.am_channel.specs.Calls as Calls;
 ghost use Rattle.am_channel.specs.Calls.{after};

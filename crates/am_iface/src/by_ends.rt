@@ -1,4 +1,5 @@
-// What a work comes to by the ends of its channel.
+//! What a work comes to by the ends of its channel.
+
 ghost use Rattle.am_iface.specs.ByEnds.{emits_retry, needs_settling, needs_time_out};
 ghost use Rattle.am_channel.specs.Sending.{settled, timed_out};
 ghost use Rattle.am_channel.specs.Calls as Calls;

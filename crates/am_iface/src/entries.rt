@@ -1,4 +1,5 @@
-// The entries of turns that touch no endpoint.
+//! The entries of turns that touch no endpoint.
+
 ghost use Rattle.am_model_parts.specs.Interface.{arrive_at, needs_arrival};
 ghost use Rattle.am_model.specs.Channels.{arrival};
 ghost use Rattle.am_model.specs.Endpoint.{State};

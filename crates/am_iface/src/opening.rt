@@ -1,4 +1,5 @@
-// What an interface has before any entry.
+//! What an interface has before any entry.
+
 ghost use Rattle.am_channel.specs.Ends.{new_ends};
 ghost use Rattle.std.specs.Prelude.{◌≡◌, vec_len, All, IfOk};
 

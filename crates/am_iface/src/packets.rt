@@ -1,4 +1,5 @@
-// The packet that an entry emits.
+//! The packet that an entry emits.
+
 ghost use Rattle.am_office_entries.specs.Entries as does;
 ghost use Rattle.am_names.specs.declared.NodeId.{NodeId};
 ghost use Rattle.std.specs.Prelude.{◌≡◌, ℕ, is_some};

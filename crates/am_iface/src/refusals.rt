@@ -1,4 +1,5 @@
-// What keeps a work from being done, asked without doing it.
+//! What keeps a work from being done, asked without doing it.
+
 ghost use Rattle.am_endpoint.specs.View.{state_after};
 ghost use Rattle.am_iface.specs.Refusals.{full_here, full_with, refusal_alone, refusal_with, refused_by};
 ghost use Rattle.am_iface.specs.View.{FitsInterface, IsChannelOf, own};

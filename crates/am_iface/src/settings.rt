@@ -1,4 +1,5 @@
-// What an interface begins with.
+//! What an interface begins with.
+
 use am_names::NodeId;
 use std::marker::Model;
 

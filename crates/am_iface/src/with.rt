@@ -1,4 +1,5 @@
-// Turns that touch an endpoint.
+//! Turns that touch an endpoint.
+
 ghost use Rattle.am_model.specs.Changes.{settled_in};
 ghost use Rattle.am_endpoint.specs.View.{state_after};
 ghost use Rattle.am_iface.specs.Made.{IsMade};

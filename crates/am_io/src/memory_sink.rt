@@ -1,3 +1,5 @@
+//! A sink that keeps its bytes in memory.
+
 ghost use Rattle.std.specs.Prelude.{◌≡◌, ◌<◌, [], Some, Ok, Err, min};
 ghost use Rattle.am_io.specs.Causes.{Writes, WriteCause, ShortageCause, exactly};
 ghost use Rattle.am_io.specs.Memory.{fails_after, WritesSo};

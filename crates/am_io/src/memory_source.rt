@@ -1,3 +1,5 @@
+//! A source over bytes in memory.
+
 ghost use Rattle.std.specs.Prelude.{◌≡◌, ◌+◌, ◌≤◌, ◌<◌, ◌++◌, Some, false, drop, length, take, nat_lt, min, ◌&&◌, ◌==◌};
 ghost use Rattle.am_io.specs.Causes.{Reads, ReadCause, exactly};
 ghost use Rattle.am_io.specs.Memory.{after_read, fails_after, filled, read_answer};

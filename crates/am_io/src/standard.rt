@@ -1,3 +1,5 @@
+//! Sources and sinks over the readers and writers of std.
+
 ghost use Rattle.std.specs.Prelude.{◌≡◌, false};
 ghost use Rattle.am_io.specs.Causes.{ReadCause, Reads, ShortageCause, WriteCause, Writes, exactly};
 ghost use Rattle.am_io.specs.Standard.{faults_after};

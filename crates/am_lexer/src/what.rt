@@ -1,3 +1,5 @@
+//! The faults of a line.
+
 /// What is wrong with a line of a text.
 #[derive(Clone, Copy, Debug, PartialEq, Eq)]
 pub enum What {

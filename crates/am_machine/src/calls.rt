@@ -1,4 +1,5 @@
-// Calls and wants of applications.
+//! Calls and wants of applications.
+
 ghost use Rattle.am_machine.specs.Refusals.{refusal};
 ghost use Rattle.am_machine.specs.View.{Makes};
 ghost use Rattle.am_model.specs.History.{is_in_range};

@@ -1,4 +1,5 @@
-// Carries of the direct network.
+//! Carries of the direct network.
+
 ghost use Rattle.am_machine.specs.Refusals.{refusal};
 ghost use Rattle.am_machine.specs.View.{Makes};
 ghost use Rattle.am_model.specs.History.{is_in_range};

@@ -1,4 +1,5 @@
-// What a cluster does with its endpoints, each found by its place among them.
+//! What a cluster does with its endpoints, each found by its place among them.
+
 ghost use Rattle.am_driver_moves.specs.Logs.{kept};
 ghost use Rattle.am_machine.specs.Apart.{AreApart, is_at};
 ghost use Rattle.am_machine.specs.Ends.{is_of};

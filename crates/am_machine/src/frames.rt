@@ -1,4 +1,5 @@
-// What a driver's move asks of the endpoint that it moves and of the frames.
+//! What a driver's move asks of the endpoint that it moves and of the frames.
+
 ghost use Rattle.am_endpoint.specs.View.{state_after};
 ghost use Rattle.am_machine.specs.Moves.{failing_on, is_in_frame_of, is_taken};
 ghost use Rattle.std.specs.Prelude.{◌≡◌, true};

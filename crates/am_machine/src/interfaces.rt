@@ -1,4 +1,5 @@
-// The interfaces of a cluster, as they begin.
+//! The interfaces of a cluster, as they begin.
+
 ghost use Rattle.am_model_scripts.specs.Layout.{is_direct};
 ghost use Rattle.am_machine.specs.Homes.{AreFresh, AreHomes, CanConnect, IsFresh, first_told};
 ghost use Rattle.am_scenario_types.specs.declared.parts.EndLine.{EndLine};

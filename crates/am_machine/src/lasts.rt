@@ -1,4 +1,5 @@
-// The entry that was made last, read in a log that it went to.
+//! The entry that was made last, read in a log that it went to.
+
 ghost use Rattle.am_machine.specs.Lasts.{end_named};
 ghost use Rattle.am_office_entries.specs.Entries.{node_touched};
 ghost use Rattle.am_office_entries.specs.declared.Entry.{Entry};

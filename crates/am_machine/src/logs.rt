@@ -1,4 +1,5 @@
-// The logs of the endpoints and interfaces of a cluster.
+//! The logs of the endpoints and interfaces of a cluster.
+
 ghost use Rattle.am_machine_journal.specs.Merge.Joined.{lists_of};
 ghost use Rattle.am_driver_moves.specs.Logs.{kept};
 ghost use Rattle.am_machine.specs.Kept.{interface_logs, logs_in};

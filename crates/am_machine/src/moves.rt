@@ -1,4 +1,5 @@
-// The moves of a node's driver.
+//! The moves of a node's driver.
+
 ghost use Rattle.am_model_parts.specs.Driver.{end_moved};
 ghost use Rattle.am_model.specs.Parts.{driver_of};
 ghost use Rattle.am_machine.specs.Refusals.{refusal};

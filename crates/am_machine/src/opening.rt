@@ -1,4 +1,5 @@
-// How the endpoints of a cluster begin.
+//! How the endpoints of a cluster begin.
+
 ghost use Rattle.am_driver_moves.specs.Logs.{kept};
 ghost use Rattle.am_machine.specs.Beginnings.{CanOpen, opened};
 ghost use Rattle.am_model.specs.Layout.{opening_place};

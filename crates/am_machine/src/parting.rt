@@ -1,4 +1,5 @@
-// A cluster of the packet network taken apart into its nodes, and put together again.
+//! A cluster of the packet network taken apart into its nodes, and put together again.
+
 ghost use Rattle.am_model_scripts.specs.Layout.{layout_of};
 ghost use Rattle.am_machine_journal.specs.Merge.Joined.{AreOne};
 ghost use Rattle.am_machine_journal.specs.Index.View.{IsIndexOf};

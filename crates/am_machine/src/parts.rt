@@ -1,4 +1,5 @@
-// The parts of a cluster, as its callers may look at them.
+//! The parts of a cluster, as its callers may look at them.
+
 ghost use Rattle.am_endpoint.specs.View.{state_after};
 ghost use Rattle.am_machine_journal.specs.Index.View.{receipts};
 ghost use Rattle.am_driver_moves.specs.Logs.{kept};

@@ -1,4 +1,5 @@
-// What keeps an event from being made, asked without making it.
+//! What keeps an event from being made, asked without making it.
+
 ghost use Rattle.am_machine.specs.Refusals.{refusal};
 ghost use Rattle.am_model.specs.History.{is_in_range};
 ghost use Rattle.std.specs.Prelude.{◌≡◌, true};

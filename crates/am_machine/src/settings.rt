@@ -1,3 +1,5 @@
+//! The settings of a cluster.
+
 use am_scenario_types::Network;
 
 /// What a cluster begins with beside its endpoints and failing page calls, each number in the range that the scenario

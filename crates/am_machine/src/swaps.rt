@@ -1,4 +1,5 @@
-// The disks of a cluster, as they begin.
+//! The disks of a cluster, as they begin.
+
 ghost use Rattle.am_swap_device.specs.Memory.{with_held};
 ghost use Rattle.am_swap_image.specs.Image.{image};
 ghost use Rattle.am_machine.specs.Presets.{AreOpened, begins_on, fails_of, is_of_node, opened_swap, opening_body, preset_if};

@@ -1,4 +1,5 @@
-// A work of an interface, on its parts: the interface, the endpoint that it touches, and the index.
+//! A work of an interface, on its parts: the interface, the endpoint that it touches, and the index.
+
 ghost use Rattle.am_endpoint.specs.View.{state_after};
 ghost use Rattle.am_iface.specs.View.{own};
 ghost use Rattle.am_machine_journal.specs.Index.View.{IsIndexOf};

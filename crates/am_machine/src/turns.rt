@@ -1,4 +1,5 @@
-// Works of interfaces: binds, time-outs and receipts.
+//! Works of interfaces: binds, time-outs and receipts.
+
 ghost use Rattle.am_model_parts.specs.Interface.{event_of};
 ghost use Rattle.am_machine.specs.Refusals.{refusal};
 ghost use Rattle.am_machine.specs.Turned.{IsTaken};

@@ -1,4 +1,5 @@
-// Where the packet of a work goes.
+//! Where the packet of a work goes.
+
 ghost use Rattle.am_iface.specs.View.{FitsInterface};
 ghost use Rattle.am_machine.specs.Apart.{AreApart};
 ghost use Rattle.am_machine.specs.Ways.{front_node, node_of, way};

@@ -1,4 +1,5 @@
-// The report of a journal.
+//! The report of a journal.
+
 ghost use Rattle.std.specs.Prelude.{◌≡◌, ◌++◌, IfOk};
 ghost use Rattle.am_main_lines.specs.Lines.{full_line, ids_of};
 ghost use Rattle.am_office_report.specs.Report.{report};

@@ -1,4 +1,5 @@
-// The one-line texts.
+//! The one-line texts.
+
 ghost use Rattle.std.specs.Prelude.{◌≡◌, ◌++◌, IfOk, OnOk, codes};
 ghost use Rattle.am_main_lines.specs.Lines.{full_line, refused_line};
 ghost use Rattle.am_main_lines.specs.Words.{condition_word, part_word};

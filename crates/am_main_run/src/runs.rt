@@ -1,4 +1,5 @@
-// The run of a scenario.
+//! The run of a scenario.
+
 ghost use Rattle.std.specs.Prelude.{◌≡◌, ◌++◌, IfErr, IfOk};
 ghost use Rattle.am_cluster.specs.Runs.{IsRunDone, IsRunStopped, ObeysRunLaws};
 ghost use Rattle.am_laws_runs.specs.Turns.Runs.{IsWholeRun};

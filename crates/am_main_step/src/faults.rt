@@ -1,3 +1,5 @@
+//! Why a script has no report.
+
 use am_office_entries::{Condition, Part};
 use am_scenario::ScenarioFault;
 use thiserror::Error;

@@ -1,4 +1,5 @@
-// What the command `step` gives to print.
+//! What the command `step` gives to print.
+
 ghost use Rattle.std.specs.Prelude.{◌≡◌, IfOk};
 ghost use Rattle.am_main_lines.specs.Lines.{answer_in};
 ghost use Rattle.am_main_step.specs.Answer.{not_enabled_line};

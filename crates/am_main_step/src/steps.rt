@@ -1,4 +1,5 @@
-// The steps of a scenario, one after the other.
+//! The steps of a scenario, one after the other.
+
 ghost use Rattle.std.specs.Prelude.{◌≡◌, []};
 ghost use Rattle.am_model_scripts.specs.Layout.{events_of, layout_of};
 ghost use Rattle.am_model_scripts.specs.Steps.Laws.{AreInRange};

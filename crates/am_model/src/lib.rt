@@ -1,4 +1,4 @@
-// The machine: what each entry of a journal does, and which journals are histories.
+//! The machine: what each entry of a journal does, and which journals are histories.
 #![tactic(auto)]
 
 ghost use Rattle.am_model.specs.DelayedTry as delayed;

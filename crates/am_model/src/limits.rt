@@ -1,4 +1,5 @@
-// Where a message comes to the limit of its bounces.
+//! Where a message comes to the limit of its bounces.
+
 ghost use Rattle.am_model.specs.History.{judged};
 ghost use Rattle.am_model.specs.Tables.{may_bounce};
 ghost use Rattle.std.specs.Prelude.{◌≡◌};

@@ -1,4 +1,5 @@
-// Where an endpoint lies: tests on its place.
+//! Where an endpoint lies: tests on its place.
+
 ghost use Rattle.am_model.specs.Endpoint.{is_in_a_frame, is_on_disk, is_on_host, is_resident};
 ghost use Rattle.am_model.specs.History.{is_in_frame};
 ghost use Rattle.std.specs.Prelude.{◌≡◌};

@@ -1,4 +1,5 @@
-// The numbers of a translation table and of handlers: which are in range, and what shares are together.
+//! The numbers of a translation table and of handlers: which are in range, and what shares are together.
+
 ghost use Rattle.am_model.specs.Calls.{share_of};
 ghost use Rattle.am_model.specs.History.{are_credits_in_range, is_kind_in_range};
 ghost use Rattle.std.specs.Prelude.{◌≡◌, ◌≤◌, sum_by};

@@ -1,4 +1,5 @@
-// What an interface may do next.
+//! What an interface may do next.
+
 ghost use Rattle.am_model_parts.specs.Interface.{stamp_in};
 ghost use Rattle.std.specs.Prelude.{◌≡◌};
 

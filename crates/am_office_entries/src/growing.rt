@@ -1,4 +1,5 @@
-// How a list grows.
+//! How a list grows.
+
 ghost use Rattle.std.specs.Prelude.{◌≤◌};
 
 /// For how many more elements a list is to make room: for one where it has that room. Else first for 64, and then for three times

@@ -4,37 +4,21 @@ ghost use Rattle.am_places.specs.Laws.{ClaimsFitPlaces, FrameWordsAreClaims, Fra
 use crate::book::Book;
 
 /// Two endpoints that lie at home are not in one frame.
-///
-/// ```
-/// frames_hold_one::<Notes>();
-/// ```
 pub fn frames_hold_one<B: Book>()
     ensures { FramesHoldOne B.items B.birth B.stands B.moves }
 {}
 
 /// Of what two seats have seen of an endpoint, one begins with the other.
-///
-/// ```
-/// seats_see_one_history::<Notes>();
-/// ```
 pub fn seats_see_one_history<B: Book>()
     ensures { SeatsSeeOneHistory B.items B.birth B.stands B.moves }
 {}
 
 /// Each frame word names the endpoint for which the driver's pass has the frame claimed, and is 0 where there is none.
-///
-/// ```
-/// frame_words_are_claims::<Notes>();
-/// ```
 pub fn frame_words_are_claims<B: Book>()
     ensures { FrameWordsAreClaims B.items B.birth B.stands B.moves }
 {}
 
 /// While the driver is not inside, a frame is claimed for an endpoint exactly where the place in its state word is that frame.
-///
-/// ```
-/// claims_fit_places::<Notes>();
-/// ```
 pub fn claims_fit_places<B: Book>()
     ensures { ClaimsFitPlaces B.items B.birth B.stands B.moves }
 {}

@@ -10,10 +10,6 @@ use am_names::EndpointId;
 
 impl<B: Book + Send + Drop> Places<B> {
     /// The position of an endpoint: the first where its number stands. None where it is none of these.
-    ///
-    /// ```
-    /// let at = places.position(EndpointId(7));
-    /// ```
     pub fn position(&self, end: EndpointId) -> Option<usize>
         ensures { result ≡ position (same_end end) self.now.ids.items }
     {
@@ -68,10 +64,6 @@ impl<B: Book + Send + Drop> Places<B> {
     }
 
     /// The book, once, where every other seat is gathered. None where this seat took it out before.
-    ///
-    /// ```
-    /// let book = places.take_out(&mut keeper, EndpointId(7));
-    /// ```
     pub fn take_out(&self, seat: &mut Seat<B>, end: EndpointId) -> Option<B>
         requires seat { seat.old.token.table_id ≡ self.now.board.shared.table_id }
         requires known { Contains self.now.ids.items end }

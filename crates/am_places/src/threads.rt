@@ -7,10 +7,6 @@ fn may_be_shared<T: Sync>(_value: &T) {}
 fn may_be_given<T: Send>(_value: &T) {}
 
 /// Places may be shared between threads, and seats may be given to them, and books that were taken: this compiles.
-///
-/// ```
-/// may_cross_threads(&places, &seat, &entered);
-/// ```
 pub fn may_cross_threads<B: Book + Send + Drop>(
     places: &Places<B>,
     seat: &Seat<B>,

@@ -37,10 +37,6 @@ pub fn open<B: Book + Send + Drop>(
 }
 
 /// The same with two seats: the first, and then the last, which is the driver's.
-///
-/// ```
-/// let (places, first, second) = open_two(alloc, books, ids, 0)?;
-/// ```
 pub fn open_two<B: Book + Send + Drop>(
     alloc: Global,
     books: Vec<B>,

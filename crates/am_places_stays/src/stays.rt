@@ -32,10 +32,6 @@ pub fn enter<B: Book + Send + Drop>(
 }
 
 /// Gives the book back. The seat has then added to it what is new in its list since it entered.
-///
-/// ```
-/// leave(&places, &mut seat, entered);
-/// ```
 pub fn leave<B: Book + Send + Drop>(places: &Places<B>, seat: &mut Seat<B>, entered: Entered<B>)
     requires at { entered.at < places.now.count }
     requires inside { IsInside B.items B.birth B.stands B.moves places.now.board.shared.table_id entered.at seat.old.token entered.book }

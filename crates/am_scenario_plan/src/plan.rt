@@ -1,3 +1,5 @@
+//! The lines of a loss plan.
+
 use am_names::NodeId;
 
 /// What a link does with a packet.

@@ -1,3 +1,5 @@
+//! Why a text spells no scenario.
+
 ghost use Rattle.std.specs.Prelude.{◌≡◌};
 ghost use Rattle.am_scenario_types.specs.declared.faults.ReadFault.TheVariants.{NoMemory};
 

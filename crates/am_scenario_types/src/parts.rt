@@ -1,3 +1,5 @@
+//! The parts of a scenario.
+
 use am_names::{EndpointId, NodeId, Tag};
 use am_office_entries::{Call, Event};
 

@@ -1,4 +1,5 @@
-// A body as lists.
+//! A body as lists.
+
 ghost use Rattle.am_swap_codec.specs.Counts.{AreCounted};
 ghost use Rattle.std.specs.Prelude.{◌≡◌, [], IfOk};
 

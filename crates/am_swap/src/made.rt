@@ -1,4 +1,5 @@
-// A body made of its lists.
+//! A body made of its lists.
+
 ghost use Rattle.am_endpoint_body.specs.Views.{slots_held};
 ghost use Rattle.am_swap.specs.Made.{CanBeMade, is_queued_answer, is_queued_request};
 ghost use Rattle.std.specs.List.{list_all};

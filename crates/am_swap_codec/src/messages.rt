@@ -1,4 +1,5 @@
-// Tests of messages.
+//! Tests of messages.
+
 ghost use Rattle.am_swap_codec.specs.Tests.{answers_expected, is_answered_once, is_expected};
 ghost use Rattle.am_office_entries.specs.Entries.{is_serial};
 ghost use Rattle.am_model.specs.Valid.{answers, has_arrived, is_own, is_own_answer, is_own_notice, is_own_request, is_received_here};

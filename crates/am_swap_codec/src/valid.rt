@@ -1,4 +1,5 @@
-// Whether a body that was read is valid.
+//! Whether a body that was read is valid.
+
 ghost use Rattle.am_swap_codec.specs.Tests.{answers_expected, arrivals_pass, is_answered_once, is_within_pool, passes, queues_pass, records_pass, tables_pass};
 ghost use Rattle.am_model.specs.Calls.{excess, excess_at, excess_from, is_at, shares};
 ghost use Rattle.am_model.specs.Endpoint.{entry_at, is_arrived};

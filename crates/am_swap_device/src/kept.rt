@@ -1,4 +1,5 @@
-// What a swap in memory keeps for each key.
+//! What a swap in memory keeps for each key.
+
 ghost use Rattle.am_swap_device.specs.Memory.{HeldImage, held_for, held_instead, is_for};
 ghost use Rattle.std.specs.Prelude.{◌≡◌, [], ◌∷◌, ◌++◌, find, if◌then◌else◌, is_ok, position};
 ghost use Rattle.std.specs.Option.{option_copied};

@@ -1,3 +1,5 @@
+//! What holds bytes for endpoints.
+
 ghost use Rattle.am_names.specs.declared.EndpointId.{EndpointId};
 ghost use Rattle.am_swap_device.specs.Causes.{Device, FailsAsTold, HoldsSame, IsCaused, IsCounted, Writes, fault_of};
 ghost use Rattle.am_swap_device.specs.declared.swap.SwapFault.{SwapFault};

@@ -1,4 +1,5 @@
-// A table made of its parts, and its parts as lists.
+//! A table made of its parts, and its parts as lists.
+
 ghost use Rattle.am_translate.specs.Tables.{IsTable};
 ghost use Rattle.std.specs.Prelude.{◌≡◌, ◌≤◌, length};
 

@@ -1,4 +1,5 @@
-// The records of the requests whose replies are awaited, in order of acceptance: at most 32, in place.
+//! The records of the requests whose replies are awaited, in order of acceptance: at most 32, in place.
+
 ghost use Rattle.am_model.specs.Changes.{arrived};
 ghost use Rattle.am_model.specs.Endpoint.{waits_for};
 ghost use Rattle.am_model.specs.Valid.{has_arrived};

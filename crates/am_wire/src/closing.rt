@@ -28,10 +28,6 @@ pub struct LinkRecord {
 
 /// A link from a node to a node, on which nothing was emitted. Of the plan only the lines of this link count. `NoMemory`
 /// comes only for want of memory.
-///
-/// ```
-/// let (out, inn) = make_link(alloc, plan, NodeId(0), NodeId(1))?;
-/// ```
 pub fn make_link(
     alloc: Global,
     plan: Vec<PlanLine>,

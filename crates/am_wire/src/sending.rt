@@ -33,10 +33,6 @@ impl LinkOut {
 
     /// Makes room for one more emission. `NoMemory` comes only where there is none for it; either way nothing else changes, and
     /// no room is lost.
-    ///
-    /// ```
-    /// out.room()?;
-    /// ```
     pub fn room(&mut self) -> Result<(), NoMemory>
         ensures spare { OnOk result (1 ≤ spare self.new) }
         ensures err { OnErr result (spare self.new ≡ spare self.old) }
@@ -64,10 +60,6 @@ impl LinkOut {
     }
 
     /// Emits a packet. `NoMemory` comes only where there is no room for it and none can be made: nothing is emitted then.
-    ///
-    /// ```
-    /// out.offer(packet)?;
-    /// ```
     pub fn offer(&mut self, packet: Packet) -> Result<(), NoMemory>
         ensures same { SameLink self.old self.new }
         ensures ok { OnOk result (emitted self.new ≡ emitted self.old ++ packet ∷ []) }

@@ -45,10 +45,6 @@ impl<T: Copy, S: Stamping<T>> RelayOut<T, S> {
 
     /// Makes room for one more emission. `NoMemory` comes only where there is none for it; either way nothing else changes, and
     /// no room is lost.
-    ///
-    /// ```
-    /// out.room()?;
-    /// ```
     pub fn room(&mut self) -> Result<(), NoMemory>
         ensures ok { OnOk result (1 ≤ spare self.new) }
         ensures err { OnErr result (spare self.new ≡ spare self.old) }
@@ -90,10 +86,6 @@ impl<T: Copy, S: Stamping<T>> RelayOut<T, S> {
     }
 
     /// Emits an item. `NoMemory` comes only where there is no room for it and none can be made: nothing is emitted then.
-    ///
-    /// ```
-    /// out.offer(number)?;
-    /// ```
     pub fn offer(&mut self, item: T) -> Result<(), NoMemory>
         ensures same { SameOut self.old self.new }
         ensures ok { OnOk result (emitted self.new ≡ emitted self.old ++ item ∷ []) }

@@ -33,10 +33,6 @@ impl Model for LinkFaults {
 
 impl LinkFaults {
     /// Nothing is said of any packet.
-    ///
-    /// ```
-    /// let faults = LinkFaults::new(alloc);
-    /// ```
     pub fn new(alloc: Global) -> LinkFaults
         ensures { (place : ℕ) → said result place ≡ None }
     {
@@ -47,10 +43,6 @@ impl LinkFaults {
 
     /// What the plan says of the link from a node to a node: the first of its lines, where several name one packet.
     /// `NoMemory` comes only for want of memory.
-    ///
-    /// ```
-    /// let faults = LinkFaults::of_link(alloc, &plan, NodeId(0), NodeId(1))?;
-    /// ```
     pub fn of_link(
         alloc: Global,
         plan: &[PlanLine],
@@ -78,10 +70,6 @@ impl LinkFaults {
     }
 
     /// Says something of the packet at a place, whatever was said of it before. `NoMemory` leaves all as it was.
-    ///
-    /// ```
-    /// faults.say(4, LinkFault::Late(2))?;
-    /// ```
     pub fn say(&mut self, place: u64, fault: LinkFault) -> Result<(), NoMemory>
         ensures ok { OnOk result ((other : ℕ) → said self.new other ≡ (if other == place then Some fault else said self.old other)) }
         ensures err { OnErr result ((other : ℕ) → said self.new other ≡ said self.old other) }

@@ -6,10 +6,6 @@ use am_names::Packet;
 
 /// A stage that took all emissions so far and then one more releases what that emission has in the shape of the link,
 /// whether the packets went through it or only their numbers, and holds back what all these emissions hold back.
-///
-/// ```
-/// stages_release_the_shape();
-/// ```
 pub fn stages_release_the_shape()
     ensures packets { PacketsLeave }
     ensures numbers { NumbersLeave }

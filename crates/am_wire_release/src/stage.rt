@@ -117,10 +117,6 @@ impl<T: Copy> Stage<T> {
     ghost use Rattle.am_wire_release.specs.Stages.{freed, held_then};
 
     /// A stage through which nothing went. It takes no memory.
-    ///
-    /// ```
-    /// let mut stage = Stage::new(alloc);
-    /// ```
     pub fn new(alloc: Global) -> Stage<T>
         ensures released { result.released ≡ [] }
         ensures held { result.held ≡ [] }
@@ -133,10 +129,6 @@ impl<T: Copy> Stage<T> {
 
     /// Makes room for one emission more. `NoMemory` comes where there is none for it; either way nothing else changes, and no
     /// room is lost.
-    ///
-    /// ```
-    /// stage.room()?;
-    /// ```
     pub fn room(&mut self) -> Result<(), NoMemory>
         ensures released { self.new.released ≡ self.old.released }
         ensures held { self.new.held ≡ self.old.held }
@@ -188,10 +180,6 @@ impl<T: Copy> Stage<T> {
     }
 
     /// What later emissions release.
-    ///
-    /// ```
-    /// let is_empty = stage.held().is_empty();
-    /// ```
     pub fn held(&self) -> &[LateItem<T>]
         ensures { result.now ≡ self.now.held }
     {
@@ -199,10 +187,6 @@ impl<T: Copy> Stage<T> {
     }
 
     /// Takes away what was released.
-    ///
-    /// ```
-    /// stage.take_released();
-    /// ```
     pub fn take_released(&mut self)
         ensures released { self.new.released ≡ [] }
         ensures held { self.new.held ≡ self.old.held }

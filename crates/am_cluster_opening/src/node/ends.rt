@@ -1,4 +1,5 @@
-// The endpoints of a node as they begin: their numbers, the driver's view of them, and the books that stand for them.
+//! The endpoints of a node as they begin: their numbers, the driver's view of them, and the books that stand for them.
+
 ghost use Rattle.am_workers_laws.specs.Books.Books.{IsBook};
 ghost use Rattle.am_workers_laws.specs.declared.books.EndBook.{EndBook as Book};
 ghost use Rattle.am_endpoint.specs.View.{EndpointView};

@@ -1,4 +1,5 @@
-// Each node is opened out of the cluster's part of it.
+//! Each node is opened out of the cluster's part of it.
+
 ghost use Rattle.am_workers_laws.specs.Books.Books.{IsBook, stands_at};
 ghost use Rattle.am_model.specs.Layout.{AllAre};
 ghost use Rattle.am_model_scripts.specs.Layout.{layout_of};

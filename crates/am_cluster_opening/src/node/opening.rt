@@ -1,4 +1,4 @@
-// What the workers of a node begin with.
+//! What the workers of a node begin with.
 
 use am_driver_moves::choice::View;
 use am_iface::{IfaceSettings, Interface};

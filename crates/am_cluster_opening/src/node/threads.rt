@@ -1,4 +1,5 @@
-// The threads of a node, and their scripts.
+//! The threads of a node, and their scripts.
+
 ghost use Rattle.am_names.specs.Names.{same_node};
 ghost use Rattle.am_cluster_opening.specs.Node.Openings.{thread_ids};
 ghost use Rattle.am_model_scripts.specs.Scripts.{is_of_thread};

@@ -1,4 +1,5 @@
-// Where the thread that made the fewest calls is found at once: no thread before the place made as few.
+//! Where the thread that made the fewest calls is found at once: no thread before the place made as few.
+
 ghost use Rattle.am_cluster_drainer.specs.Firsts.{IsFewest, IsNext};
 ghost use Rattle.am_cluster_drainer.specs.Reads.{left_of};
 ghost use Rattle.am_cluster_scripted.specs.Calls.Lows.{IsLow, IsLowAt, is_low};

@@ -1,4 +1,5 @@
-// What each thread is still to call.
+//! What each thread is still to call.
+
 ghost use Rattle.am_office_entries.specs.Logged.Behind.{entries_behind};
 ghost use Rattle.am_cluster_scripted.specs.Calls.Threads.{AreDistinct, AreSmall, HasThread, IsSmallAt, begun_by, call_in, fewer_of, found_in, left_in, made_in, next_in, scripted_in, scripted_of, with_call, with_call_at, with_call_if, with_line, with_line_at};
 ghost use Rattle.am_cluster_drainer.specs.Firsts.{IsFewest};

@@ -1,4 +1,5 @@
-// The tests that the rules make of a view's lines.
+//! The tests that the rules make of a view's lines.
+
 ghost use Rattle.am_driver_moves.specs.Choice.Moves as rules;
 ghost use Rattle.std.specs.Prelude.{◌≡◌, count_by, find};
 ghost use Rattle.std.specs.List.{list_any};

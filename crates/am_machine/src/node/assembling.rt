@@ -1,4 +1,5 @@
-// The parts of nodes are made of their shells, interfaces and disks.
+//! The parts of nodes are made of their shells, interfaces and disks.
+
 ghost use Rattle.am_machine.specs.Node.Parts.{part_of, parts_of};
 ghost use Rattle.am_machine.specs.Swaps.{IsTallied};
 ghost use Rattle.std.specs.Prelude.{◌≡◌, ◌≤◌, [], All, length, vec_capacity};

@@ -1,4 +1,5 @@
-// Endpoints go to the shells of their nodes.
+//! Endpoints go to the shells of their nodes.
+
 ghost use Rattle.am_machine.specs.Node.Dealt.{AreDealt, FitsShells, IsPut};
 ghost use Rattle.std.specs.Prelude.{◌<◌, vec_capacity, vec_len};
 

@@ -1,4 +1,5 @@
-// Endpoints of several nodes are gathered in the order in which they are declared.
+//! Endpoints of several nodes are gathered in the order in which they are declared.
+
 ghost use Rattle.am_model_scripts.specs.Layout.{setting_of};
 ghost use Rattle.am_machine.specs.Node.Gathered.{AreDeclared, AreOfGroups, HasOne, IsLastOf, setting_in};
 ghost use Rattle.std.specs.Prelude.{◌≡◌, ◌<◌, ◌≤◌, [], length, map, vec_capacity};

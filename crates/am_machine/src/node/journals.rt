@@ -1,4 +1,5 @@
-// The journal that the logs of several nodes merge into, and what is read off it.
+//! The journal that the logs of several nodes merge into, and what is read off it.
+
 ghost use Rattle.am_model.specs.Packets.{from_of, receiver_of};
 ghost use Rattle.am_machine_journal.specs.Merge.Joined.{AreOne, lists_of};
 ghost use Rattle.am_machine_journal.specs.Index.View.{CanCount, HasRoomFor, IsIndexOf};

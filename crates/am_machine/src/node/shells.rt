@@ -1,4 +1,5 @@
-// What a node has beside its endpoints, its interface and its disk.
+//! What a node has beside its endpoints, its interface and its disk.
+
 ghost use Rattle.am_machine_journal.specs.Index.View.{IsIndexOf};
 ghost use Rattle.am_machine.specs.Node.Shells.{AreCopies, AreCounts, AreShells, AreSmall, IsShell, is_at};
 ghost use Rattle.am_office_entries.specs.declared.Entry.{Entry};

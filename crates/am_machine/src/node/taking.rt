@@ -1,4 +1,5 @@
-// The parts of nodes are taken apart into their endpoints, interfaces and disks.
+//! The parts of nodes are taken apart into their endpoints, interfaces and disks.
+
 ghost use Rattle.am_machine.specs.Node.Taken.{HasRoomFor, IsEmpty, IsTaken, IsTakenFrom};
 ghost use Rattle.std.specs.Prelude.{◌+◌, ℕ, IfOk, length};
 

@@ -1,4 +1,5 @@
-// The packets of all links.
+//! The packets of all links.
+
 ghost use Rattle.am_machine_journal.specs.Index.Kept.{has_space, items_of};
 ghost use Rattle.am_machine_journal.specs.Index.Places.{delivered, link_of};
 ghost use Rattle.std.specs.Prelude.{◌≡◌, ◌<◌, [], true, false, length, map, vec_len, IfOk, IfSome, OnOk, All, slice_index_or};

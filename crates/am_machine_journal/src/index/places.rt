@@ -1,4 +1,5 @@
-// Where the numbers of a node or a link stand among those of all.
+//! Where the numbers of a node or a link stand among those of all.
+
 ghost use Rattle.am_machine_journal.specs.Index.Places as at;
 ghost use Rattle.std.specs.Prelude.{◌≡◌, ◌+◌, ◌<◌, ◌^◌, IfSome, length, slice_index_or};
 

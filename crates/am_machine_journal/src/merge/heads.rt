@@ -1,4 +1,5 @@
-// The next entry of each log: the first of all, and the others in a heap.
+//! The next entry of each log: the first of all, and the others in a heap.
+
 ghost use Rattle.am_machine_journal.specs.Merge.Heads.{AreFirst, IsFirst, IsFirstOf, IsHead, IsLeastFirst, is_again, is_later, log_at, next_head, option_reversed};
 ghost use Rattle.am_machine_journal.specs.Merge.Joined.{lists_of};
 ghost use Rattle.std.specs.BinaryHeap.{heap_items, heap_len};

@@ -1,4 +1,5 @@
-// Where an entry stands in a journal.
+//! Where an entry stands in a journal.
+
 ghost use Rattle.am_model.specs.Merge as order;
 ghost use Rattle.am_office_entries.specs.Entries.{ends_touched, touched_by_result};
 ghost use Rattle.std.specs.Prelude.{◌≡◌, slice_get};

@@ -1,4 +1,5 @@
-// A slot for each stamp: entries of which no two with one stamp have different parts are placed by it, and read in order.
+//! A slot for each stamp: entries of which no two with one stamp have different parts are placed by it, and read in order.
+
 ghost use Rattle.am_machine_journal.specs.Merge.Joined.{AreOne, lists_of};
 ghost use Rattle.am_machine_journal.specs.Merge.Slots.{IsFilled, all_standing, put, standing_at};
 ghost use Rattle.am_model_merge.specs.Merged.{entries_of, merged};

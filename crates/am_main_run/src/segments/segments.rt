@@ -1,4 +1,5 @@
-// The run of a scenario with segments.
+//! The run of a scenario with segments.
+
 ghost use Rattle.std.specs.Prelude.{◌≡◌, ◌≤◌, ◌++◌, IfOk, length};
 ghost use Rattle.std.specs.List.{All};
 ghost use Rattle.am_main_lines.specs.Lines.{answer_in, ids_of};

@@ -1,3 +1,5 @@
+//! What the lines of a text have said so far.
+
 ghost use Rattle.std.specs.Prelude.{◌≡◌, ◌==◌, ◌&&◌, OnOk, IfOk, MatchOption, count_by, map, find, ◌++◌, Some, None};
 ghost use Rattle.am_scenario.specs.Drafts.Said.{nothing, with_line, end_of, thread_of, bundle_of, script_call, is_planned, is_faulty};
 ghost use Rattle.am_scenario.specs.Drafts.Drafts.{said};

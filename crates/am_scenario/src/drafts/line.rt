@@ -1,3 +1,5 @@
+//! What one line says.
+
 ghost use Rattle.std.specs.Prelude.{◌≡◌};
 ghost use Rattle.am_scenario.specs.Drafts.Faults.{at_line};
 ghost use Rattle.am_scenario.specs.declared.drafts.line.LineFault.TheVariants as faults;

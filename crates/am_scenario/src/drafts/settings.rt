@@ -1,3 +1,5 @@
+//! What the lines of the settings say.
+
 ghost use Rattle.std.specs.Prelude.{◌≡◌};
 ghost use Rattle.std.specs.Option.{unwrap_or};
 ghost use Rattle.am_scenario.specs.Drafts.Said.{unsaid, with_setting, node_count, frame_count, channel_count};

@@ -1,3 +1,5 @@
+//! Answers of lines that take no memory, among those of lines that do.
+
 ghost use Rattle.std.specs.Prelude.{Result};
 ghost use Rattle.am_lexer.specs.declared.what.What.{What as Fault};
 ghost use Rattle.am_lexer.specs.Fields.{Gives};

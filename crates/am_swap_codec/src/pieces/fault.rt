@@ -1,3 +1,5 @@
+//! Why bytes are no image.
+
 use thiserror::Error;
 
 /// Why no body was read.

@@ -1,4 +1,5 @@
-// The kinds of parts that an image has lists of.
+//! The kinds of parts that an image has lists of.
+
 ghost use Rattle.am_swap_codec.specs.Pieces.Answers.{Gives};
 ghost use Rattle.am_swap_image.specs.Image.{handler_bytes, mapping_bytes, notice_bytes, queued_bytes, received_bytes, record_bytes};
 ghost use Rattle.am_swap_image.specs.Range.{fits_handler, fits_mapping, fits_message, fits_notice, fits_queued, fits_record};

@@ -1,4 +1,5 @@
-// The numbers of what is held fit the bytes that an image has for them, since their types do. Nothing runs here.
+//! The numbers of what is held fit the bytes that an image has for them, since their types do. Nothing runs here.
+
 ghost use Rattle.am_swap_image.specs.Range.{fits_about, fits_handler, fits_mapping, fits_message, fits_notice, fits_queued, fits_record, fits_serial};
 ghost use Rattle.am_model.specs.History.{are_words_in_range, is_byte, is_eight_bytes};
 ghost use Rattle.std.specs.List.{list_all};

@@ -1,4 +1,5 @@
-// The parts of an image, written at the end of what stands there.
+//! The parts of an image, written at the end of what stands there.
+
 ghost use Rattle.am_swap_image.specs.Image.{about_bytes, byte, long, short, cause_number, handler_bytes, kind_number, magic, mapping_bytes, message_bytes, notice_bytes, queued_bytes, received_bytes, record_bytes, serial_bytes, state_number, why_number, words_bytes};
 ghost use Rattle.std.specs.Prelude.{◌≡◌, ◌++◌, OnOk};
 

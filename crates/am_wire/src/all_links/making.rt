@@ -1,4 +1,5 @@
-// The links from one node, as they are made.
+//! The links from one node, as they are made.
+
 ghost use Rattle.am_wire.specs.AllLinks.Links.{IsOpened, IsRow, is_of_link, plan_of};
 ghost use Rattle.std.specs.Prelude.{◌≡◌, IfOk};
 

@@ -1,4 +1,5 @@
-// The ends that receive, by the nodes that have them.
+//! The ends that receive, by the nodes that have them.
+
 ghost use Rattle.am_wire.specs.AllLinks.Links.{AreSpread};
 ghost use Rattle.am_wire.specs.declared.receiving.LinkIn.{LinkIn as End};
 ghost use Rattle.std.specs.Global.{Vec as Column};
