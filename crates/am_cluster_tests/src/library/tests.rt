@@ -63,7 +63,7 @@ fn one_request_comes_back_and_none_is_unknown(rt: HostRuntime) -> Result<(), Fai
     let journal = finished.journal.logged(rt.alloc())?;
     let account = Account::of(rt.alloc(), &journal)?;
     let returned = account.words_ended(rt.alloc(), &journal, Ending::Returned)?;
-    assert!(rt; returned.as_slice() == &[words(5)]);
+    assert!(rt; returned.as_slice() == [words(5)].as_slice());
     let unknown = account.words_ended(rt.alloc(), &journal, Ending::Unknown)?;
     assert!(rt; unknown.is_empty());
     let refused = account.words_ended(rt.alloc(), &journal, Ending::Refused)?;
