@@ -1,0 +1,163 @@
+-- What a round adds to what was summed, and what the nodes hear.
+use Rattle.std.proofs.Common.{◌≡◌, ◌≢◌, ℕ, ◌+◌, ◌%◌, ◌^◌, ◌<◌, Bool, true, false, ◌&&◌, ◌||◌, not, List, [], ◌∷◌, ◌++◌, Option, Some, None, refl, sym, ap, ◌∙◌, subst, arith}
+use Rattle.std.proofs.Common.{All, length, map, slice_get, get_or}
+use Rattle.std.specs.Prelude.{IfSome, filter, sum_by}
+use Rattle.std.specs.List.{Contains, list_all, list_any, range_with_len}
+use Rattle.std.specs.Option.{option_map}
+use Rattle.std.proofs.lemmas.Bool.{and_parts}
+use Rattle.std.proofs.lemmas.List.Sums.{sum_by-append, sum_by_push}
+use Rattle.std.proofs.lemmas.Option.{get_or_from_slice_get, slice_get_within}
+use Rattle.am_lemmas.proofs.Numbered.{lines_all}
+use Rattle.am_names.specs.declared.EndpointId.{EndpointId}
+use Rattle.am_names.specs.declared.Message.{Message}
+use Rattle.am_names.specs.declared.Serial.{Serial}
+use Rattle.am_names.specs.declared.Words.{Words}
+use Rattle.am_names.specs.Names.{same_end}
+use Rattle.am_model.proofs.Names.{same_end-is}
+use Rattle.am_office_entries.specs.declared.Entry.{Entry}
+use Rattle.am_office_entries.specs.declared.endings.Fate.{Fate}
+use Rattle.am_office_entries.specs.declared.endings.Fate.TheVariants as Fates
+use Rattle.am_office_entries.specs.Fates.{fate}
+use Rattle.am_scenario_plan.specs.declared.plan.LinkFault.TheVariants.{Repeat}
+use Rattle.am_scenario_plan.specs.declared.plan.PlanLine.{PlanLine}
+use Rattle.am_scenario_types.specs.declared.parts.ScriptCall.{ScriptCall}
+use Rattle.am_scenario_types.specs.Lists.{ScenarioLists}
+use Rattle.am_library.specs.Ends.{is_back, is_lost, words_asked, words_fated, words_of, words_refused, words_run}
+use Rattle.am_library.specs.Laws.{EachRequestHasItsEnd, RunsWhereHandlersAre, SumsAreOfRuns, WhatRanWasAskedFor, first_of, first_word, is_handler, sets_handler}
+use Rattle.am_library.specs.Runs.{IsRun}
+use Rattle.am_library.specs.Views.{is_to, requests_run, requests_sent, runs_at, sum_at}
+use Rattle.am_library.proofs.Weights.{sum_map}
+use Rattle.am_example_reduce.specs.declared.reduce.Summed.{Summed}
+use Rattle.am_example_reduce.specs.Rounds.{Asks, Tells, end_of, root, serves_root}
+use Rattle.am_example_reduce.specs.Sums.{AreNotes, IsOutcome, Run, Sums, SumsAllBut, heard_by, weight_at_root, weight_summed}
+use Rattle.am_example_reduce.proofs.Lists.{filter_all, filter_in, filter_none}
+
+-- ---- where only the root serves, all that ran, ran there
+
+serving_is_root : (e d : EndpointId) (handler : Bool) → (same_end e d && handler) ≡ true → (not handler || same_end root d) ≡ true → same_end root e ≡ true
+serving_is_root e d handler sets serves =
+    let parts = and_parts (same_end e d) handler sets in
+    let there : same_end root d ≡ true = by_handler handler parts.1 serves in
+    subst (λ (f : EndpointId). same_end root f ≡ true) (sym (same_end-is e d parts.0)) there
+  where
+    by_handler : (b : Bool) → b ≡ true → (not b || same_end root d) ≡ true → same_end root d ≡ true
+    by_handler true is serves' = serves'
+    by_handler false is serves' = absurd (cc)
+
+root_serves : (e : EndpointId) (calls : List ScriptCall) → list_any (sets_handler e) calls ≡ true → list_all serves_root calls ≡ true →
+    same_end root e ≡ true
+root_serves e [] some all = absurd (cc)
+root_serves e (c ∷ calls) some all =
+    let parts = and_parts (serves_root c) (list_all serves_root calls) all in
+    by_test (root_serves e calls) parts.0 parts.1 (sets_handler e c) refl some
+  where
+    by_test : (list_any (sets_handler e) calls ≡ true → list_all serves_root calls ≡ true → same_end root e ≡ true) → serves_root c ≡ true →
+        list_all serves_root calls ≡ true → (b : Bool) → sets_handler e c ≡ b → (b || list_any (sets_handler e) calls) ≡ true → same_end root e ≡ true
+    by_test later here rest true is some' = serving_is_root e c.endpoint (is_handler c.call) is here
+    by_test later here rest false is some' = later some' rest
+
+all_at_root : (s : ScenarioLists) (journal : List Entry) → IsRun s journal → RunsWhereHandlersAre → list_all serves_root s.script ≡ true →
+    runs_at journal root ≡ requests_run journal
+all_at_root s journal run served alone =
+    filter_all (is_to root) (requests_run journal)
+    (λ (m : Message) (has : Contains (requests_run journal) m). root_serves m.dest s.script (served s journal m run has) alone)
+
+-- ---- where the plan only repeats, nothing is unknown
+
+not_lost : (f : Option Fate) → f ≢ Some Fates.Unknown → is_lost f ≡ false
+not_lost (Some Fates.Unknown) known = absurd (known refl)
+not_lost (Some Fates.Ran) known = refl
+not_lost (Some (Fates.Returned cause)) known = refl
+not_lost (Some Fates.UnknownButRan) known = refl
+not_lost (Some Fates.Pending) known = refl
+not_lost None known = refl
+
+none_lost : (journal : List Entry) → ((serial : Serial) → fate journal serial ≢ Some Fates.Unknown) → words_fated is_lost journal ≡ []
+none_lost journal known =
+    ap (map words_of) (filter_none (λ (m : Message). is_lost (fate journal m.serial)) (requests_sent journal)
+    (λ (m : Message). not_lost (fate journal m.serial) (known m.serial)))
+
+-- ---- a round more
+
+both : (n a b x y : ℕ) → n ≡ (a + b) % 2 ^ 64 → a ≡ x % 2 ^ 64 → b ≡ y % 2 ^ 64 → n ≡ (x + y) % 2 ^ 64
+both n a b x y sum one other = omega arith
+
+one_more : (n a b x : ℕ) → n ≡ (a + b) % 2 ^ 64 → a ≡ x % 2 ^ 64 → n ≡ (x + b) % 2 ^ 64
+one_more n a b x sum one = omega arith
+
+pub round_more : (plan : List PlanLine) (numbers : List Words) (before now : Summed) (s : ScenarioLists) (journal : List Entry) → EachRequestHasItsEnd →
+    RunsWhereHandlersAre → SumsAreOfRuns → IsRun s journal → Asks plan before.left.items s → IsOutcome before journal now → Sums plan numbers before →
+    Sums plan numbers now
+round_more plan numbers before now s journal ends served sums is_run asks outcome so_far = record {
+  runs = so_far.runs ++ here ∷ [];
+  each = λ (weight : Words → ℕ). omega (
+    arith,
+    so_far.each weight,
+    ap (sum_by weight) asks.asked,
+    ends s journal is_run weight,
+    sum_map weight words_of (requests_run journal),
+    ap (sum_by (λ (m : Message). weight m.words)) there,
+    sum_by_push (λ (run : Run plan). weight_at_root weight run.journal) so_far.runs here,
+    ap (sum_by weight) outcome.left',
+    sum_by-append weight (words_refused journal) (words_fated is_back journal),
+    ap (sum_by weight) outcome.unknown',
+    sum_by-append weight (words_fated is_lost journal) before.unknown.items,
+  );
+  summed =
+      both now.sum before.sum (sum_at journal root) (weight_summed first_of so_far.runs) (weight_at_root first_of journal) outcome.sum' so_far.summed
+      (sums s journal root is_run asks.adds)
+      ∙ ap (λ (n : ℕ). n % 2 ^ 64) (sym (sum_by_push (λ (run : Run plan). weight_at_root first_of run.journal) so_far.runs here));
+  at_root =
+      one_more now.sum before.sum (sum_at journal root) (sum_by (λ (run : Run plan). sum_at run.journal root) so_far.runs) outcome.sum' so_far.at_root
+      ∙ ap (λ (n : ℕ). n % 2 ^ 64) (sym (sum_by_push (λ (run : Run plan). sum_at run.journal root) so_far.runs here));
+  known = λ (repeats : All (λ (line : PlanLine). line.fault ≡ Repeat) plan).
+      outcome.unknown'
+      ∙ (λ i. none_lost journal (λ (serial : Serial). (is_run.obeys.complete (subst (λ (lines : List PlanLine). All (λ (line : PlanLine). line.fault ≡ Repeat) lines)
+      (sym asks.plan') repeats) serial).0) i ++ so_far.known repeats i);
+}
+  where
+    here : Run plan
+    here = record { scenario = s; journal = journal; planned = asks.plan'; is_run = is_run }
+
+    there : runs_at journal root ≡ requests_run journal
+    there = all_at_root s journal is_run served asks.alone
+
+pub round_none : (plan : List PlanLine) (numbers left unknown : List Words) → left ≡ numbers → unknown ≡ [] → SumsAllBut plan numbers 0 left unknown
+round_none plan numbers left unknown all none = record {
+  runs = [];
+  each = λ (weight : Words → ℕ). omega (arith, ap (sum_by weight) all, ap (sum_by weight) none);
+  summed = refl;
+  at_root = refl;
+  known = λ (repeats : All (λ (line : PlanLine). line.fault ≡ Repeat) plan). none;
+}
+
+pub is_whole : (plan : List PlanLine) (numbers : List Words) (summed : Summed) → Sums plan numbers summed → summed.left.items ≡ [] →
+    summed.unknown.items ≡ [] → (summed.sum ≡ sum_by first_of numbers % 2 ^ 64) × SumsAllBut plan numbers summed.sum [] []
+is_whole plan numbers summed sums none_left none_unknown =
+    let all : SumsAllBut plan numbers summed.sum [] [] =
+    coe 0 1 (i. SumsAllBut plan numbers summed.sum (none_left i) (none_unknown i)) sums in
+    let total : weight_summed first_of all.runs ≡ sum_by first_of numbers = omega (arith, all.each first_of) in
+    (all.summed ∙ ap (λ (n : ℕ). n % 2 ^ 64) total, all)
+
+-- ---- what the nodes hear
+
+pub are_notes : (plan : List PlanLine) (nodes sum : ℕ) (s : ScenarioLists) (journal : List Entry) (notes : List (Option ℕ)) → WhatRanWasAskedFor →
+    IsRun s journal → Tells plan sum s → notes ≡ map (heard_by journal) (range_with_len 0 nodes) → AreNotes plan nodes sum notes
+are_notes plan nodes sum s journal notes asked is_run tells heard = record {
+  run = record { scenario = s; journal = journal; planned = tells.plan'; is_run = is_run };
+  heard = heard;
+  same = subst (λ (ns : List (Option ℕ)). All IsSum ns) (sym heard)
+      (lines_all (heard_by journal) IsSum nodes (λ (k : ℕ) (below : k < nodes). by_first (end_of k) (slice_get (runs_at journal (end_of k)) 0) refl));
+}
+  where
+    IsSum : Option ℕ → Type 0
+    IsSum note = IfSome note (λ (number : ℕ). number ≡ sum)
+
+    by_words : (m : Message) → Contains (words_asked s.script) m.words → first_word m ≡ sum
+    by_words m (k, below, at) = ap first_of (sym at) ∙ tells.told k m.words below
+
+    by_first : (e : EndpointId) (o : Option Message) → slice_get (runs_at journal e) 0 ≡ o → IsSum (option_map first_word o)
+    by_first e None is = tt
+    by_first e (Some m) is =
+        let has : Contains (runs_at journal e) m = (0, slice_get_within (runs_at journal e) 0 m is, get_or_from_slice_get (runs_at journal e) 0 m m is) in
+        by_words m (asked s journal m is_run (filter_in (is_to e) (requests_run journal) m has))
