@@ -1,9 +1,10 @@
 #!/usr/bin/env python3
-"""instructions.py PROGRAM [WORD]: how many instructions the program takes for each input, and how much memory at most. Needs valgrind and a C compiler.
+"""instructions.py PROGRAM [WORD]: the page faults, the misses of the first cache, the instructions and the most memory that the program takes for each input. Needs valgrind
+and a C compiler.
 
-Prints a table. Instructions don't depend on what else the machine does; they are counted by callgrind over the whole program, reading and printing included. The
-columns of plain Rust are those of an unverified program for the same rules, with one thread and std only, which is no part of this repository: figures to go by. With WORD,
-only the rows that contain it.
+Prints a table. None of these depends on what else the machine does. Page faults are the kernel's count of a whole run; instructions and misses are counted by cachegrind over
+the whole program, reading and printing included, with a first cache for data of 32 kB in lines of 64 bytes, eight to a set. In brackets stands what an unverified program of
+plain Rust for the same rules takes, with one thread and std only, which is no part of this repository: figures to go by. With WORD, only the rows that contain it.
 """
 import os
 import re
@@ -13,32 +14,38 @@ import tempfile
 
 INPUTS = os.path.join(os.path.dirname(os.path.abspath(__file__)), "inputs.py")
 
-# what, the program's words, the input, and of plain Rust: millions of instructions, and megabytes
+# The first cache for data and the last one that cachegrind plays: bytes, how many lines to a set, bytes of a line.
+CACHES = ("--D1=32768,8,64", "--LL=8388608,16,64")
+
+# what, the program's words, the input, and of plain Rust: page faults, millions of misses and of instructions, megabytes; None where it wasn't measured
 ROWS = (
-    ("`step`, direct network, 65,000 lines", "step", "direct 65000", 132, 15),
-    ("`step`, packet network, 65,000 lines", "step", "packet 65000", 144, 14),
-    ("`run`, 16,384 calls", "run", "calls 16384 0", 105, 8),
-    ("the same with 4,096 packets that come twice", "run", "calls 16384 4096", 117, 9),
-    ("`run`, 256 endpoints on 16 nodes, 47,552 entries", "run", "crowd 16 0 16 176", 112, 9),
-    ("`make 1`", "make 1", "", 13, 3),
-    ("`count 8 0`, a text of 40,000 bytes", "count 8 0", "words 40000", 215, 7.5),
-    ("16 MB of comments", "step", "comments 16777000", 230, 18),
-    ("one poll", "step", "poll", 0.5, 2.4),
+    ("`step`, direct network, 65,000 lines", "step", "direct 65000", 3285, 0.35, 132, 15),
+    ("`step`, packet network, 65,000 lines", "step", "packet 65000", 3175, 0.34, 144, 14),
+    ("`run`, 16,384 calls", "run", "calls 16384 0", 2120, 0.24, 105, 8),
+    ("the same with 4,096 packets that come twice", "run", "calls 16384 4096", None, None, 117, 9),
+    ("`run`, 256 endpoints on 16 nodes, 47,552 entries", "run", "crowd 16 0 16 176", 2020, 0.41, 112, 9),
+    ("`make 1`", "make 1", "", None, None, 13, 3),
+    ("`count 8 0`, a text of 40,000 bytes", "count 8 0", "words 40000", None, None, 215, 7.5),
+    ("16 MB of comments", "step", "comments 16777000", None, None, 230, 18),
+    ("one poll", "step", "poll", None, None, 0.5, 2.4),
 )
 
 
-def instructions(command, path):
+def counted(command, path):
+    """Millions of misses of the first cache, and of instructions."""
     with open(path, "rb") as given:
-        words = ["valgrind", "--tool=callgrind", "--callgrind-out-file=/dev/null", *command]
-        found = subprocess.run(words, stdin=given, capture_output=True, check=False)
-    return int(re.search(r"Collected : (\d+)", found.stderr.decode())[1])
+        words = ["valgrind", "--tool=cachegrind", "--cache-sim=yes", *CACHES, "--cachegrind-out-file=/dev/null", *command]
+        found = subprocess.run(words, stdin=given, capture_output=True, check=False).stderr.decode()
+    numbers = (re.search(rf"{word}:? +([\d,]+)", found)[1] for word in ("D1  misses", "I +refs"))
+    return [int(it.replace(",", "")) / 1_000_000 for it in numbers]
 
 
-def memory(peak, command, path):
-    """The most memory that the program has at once, in megabytes, and its status."""
+def used(peak, command, path):
+    """The most memory that the program has at once, in megabytes, its page faults, and its status."""
     with open(path, "rb") as given:
         found = subprocess.run([peak, *command], stdin=given, stdout=subprocess.DEVNULL, stderr=subprocess.PIPE, check=False)
-    return int(found.stderr) / 1024, found.returncode
+    most, faults = map(int, found.stderr.split())
+    return most / 1024, faults, found.returncode
 
 
 def main(program, word=""):
@@ -49,20 +56,26 @@ def main(program, word=""):
         table(program, word, peak)
 
 
+def beside(now, form, plain):
+    """A figure with that of plain Rust and how many times as much it is, where there is one."""
+    return format(now, form) if plain is None else f"{now:{form}} ({plain:,}: {now / plain:.1f})"
+
+
 def table(program, word, peak):
-    print("| Work | Instructions | Plain Rust | Ratio | Memory | Plain Rust | Ratio |")
-    print("|---|---|---|---|---|---|---|")
-    for what, words, given, plain, plain_memory in ROWS:
+    print("| Work | Page faults | Misses, M | Instructions, M | Memory, MB |")
+    print("|---|---|---|---|---|")
+    for what, words, given, *plain in ROWS:
         if word not in what:
             continue
         with tempfile.NamedTemporaryFile() as text:
             if given:
                 subprocess.run([sys.executable, INPUTS, *given.split()], stdout=text, check=True)
             command = [program, *words.split()]
-            count = instructions(command, text.name) / 1_000_000
-            most, status = memory(peak, command, text.name)
+            misses, instructions = counted(command, text.name)
+            most, faults, status = used(peak, command, text.name)
         told = "" if status == 0 else f", status {status}"
-        print(f"| {what}{told} | {count:,.1f} M | {plain} M | {count / plain:.1f} | {most:.1f} MB | {plain_memory} MB | {most / plain_memory:.1f} |", flush=True)
+        cells = map(beside, (faults, misses, instructions, most), (",", ",.2f", ",.1f", ",.1f"), plain)
+        print(f"| {what}{told} | {' | '.join(cells)} |", flush=True)
 
 
 if __name__ == "__main__":

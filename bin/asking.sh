@@ -208,6 +208,7 @@ by_row() {
             return
         fi
     done
+    [[ ${words[taken]-} != --faults ]] || wanted='--faults PERCENT'
 }
 
 # Finds the row of the words: `row`, `taken`, `kind`, and `fault` where there is something wrong with them.
@@ -362,8 +363,8 @@ tell_status() {
     { [ -t 1 ] && [ -z "$out" ]; } || say "$called: status $1: $(status_meaning "$1")"
     case $1:$asked in
         3:step | 3:run | 3:check* | 10:check*) form=${asked#check } ;;
-        3:why* | 3:chart* | 3:replay* | 3:state* | 3:json* | 3:scenario\ step | 3:scenario\ run | 3:shrink*) form=${words[1]} ;;
-        10:why* | 10:chart* | 10:replay* | 10:state* | 10:json*) form=${words[1]} ;;
+        3:why* | 3:chart* | 3:replay* | 3:state* | 3:json* | 3:page* | 3:scenario\ step | 3:scenario\ run | 3:shrink*) form=${words[1]} ;;
+        10:why* | 10:chart* | 10:replay* | 10:state* | 10:json* | 10:page*) form=${words[1]} ;;
         3:schedule* | 3:find* | 3:faults*) form=run ;;
         *) return ;;
     esac
@@ -430,8 +431,12 @@ read_options() {
                 out=$2
                 shift
                 ;;
-            --seed) if [ "${words[0]-}" = shrink ]; then words+=("$1"); else flags+=("$1"); fi ;;
-            --?*) flags+=("$1") ;;
+            --?*)
+                case ${words[0]-}:$1 in
+                    shrink:--seed | schedule:--faults | find:--faults) words+=("$1") ;;
+                    *) flags+=("$1") ;;
+                esac
+                ;;
             *) words+=("$1") ;;
         esac
         shift

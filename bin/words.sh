@@ -18,9 +18,12 @@ word_rows=(
     am2_lab 'scenario segments' scenario 'prints the scenario that am2 segments runs' 'scenario segments examples/segments.am2'
     am2_lab 'scenario count W U ROUND' text 'prints the scenario of a round of am2 count W U' 'scenario count 4 0 1 README.md'
     am2_lab 'schedule SEED[..SEED2]' scenario 'runs threads in an order that a seed draws' 'schedule 0..100 examples/turns-clients.am2'
+    am2_lab 'schedule SEED[..SEED2] --faults PERCENT' scenario 'the same, with the plan that the seed draws' 'schedule 0..100 --faults 20 examples/turns-clients.am2'
     am2_lab 'json step|run' both 'prints the journal as lines of JSON' 'json step examples/first.am2 examples/first.out'
+    am2_lab 'page step|run' both 'prints a page for a browser' 'page step -o first.html examples/first.am2 examples/first.out'
     am2_lab 'state step|run [LINE [LINE2]]' both 'tells the state behind a line, or what changed from one to another' 'state step 9 examples/first.am2 examples/first.out'
     am2_lab 'find [--not] A..B WORDS..' behind 'prints the report of the least seed with such a line' "find 0..100 'fate 1.* request ran' -- examples/turns-clients.am2"
+    am2_lab 'find [--not] A..B --faults PERCENT WORDS..' behind 'the same, with the plan that the seed draws, behind the scenario with it' "find 0..1000 --faults 50 'fate 0.* request unknown-but-ran' -- examples/turns-clients.am2"
     am2_lab 'faults SEED PERCENT' scenario 'prints a scenario with a plan that a seed draws' 'faults 7 20 examples/turns-clients.am2'
     am2_lab 'shrink step|run WORDS..' behind 'leaves out what it can, as long as the report has such a line' "shrink step 'fate 0.* request ran' -- examples/first.am2"
     am2_lab 'shrink run --seed N WORDS..' behind 'the same of a run by a seed' "shrink run --seed 7 'fate 1.*' -- examples/turns-clients.am2"
@@ -39,6 +42,7 @@ asked_range() {
         A..B) echo 'A..B are the seeds from A up to B, which is not among them, 1 to 100000 in all' ;;
         SEED) echo 'SEED is a number from 0 to 18446744073709551615' ;;
         PERCENT) echo 'PERCENT is a number from 0 to 100' ;;
+        '--faults PERCENT') echo '--faults PERCENT stands behind the seeds' ;;
         WORDS..) echo 'WORDS are those that a line of the report begins with, none of them empty or with -- in front; a file stands behind them and --' ;;
         'SEED[..SEED2]') echo 'SEED is a number from 0 to 18446744073709551615; SEED..SEED2 are the seeds from SEED up to SEED2, which is not among them, 1 to 100000 in all' ;;
     esac

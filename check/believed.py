@@ -15,7 +15,7 @@ PAGE = Path("docs/BELIEVED.md")
 SLICES = (
     ("The nine laws and one fate", "definitions", (("am_model", "PostOffice", "PostOffice"), ("am_laws", "Fates", "HasOneFate")),
      "What each journal of the cluster obeys that is printed: `PostOffice`, and `HasOneFate` of each serial. Begin with "
-     "[PostOffice](../crates/am_model/specs/PostOffice.antt): each law has its plain sentence above it. Of the machine it needs only with which tag an endpoint begins (`opening`) and at which node it is (`home`). "
+     "[PostOffice](../crates/am_model/specs/PostOffice.antt): each law has its plain sentence above it; these take half an hour, the definitions that they name an hour more. Of the machine it needs only with which tag an endpoint begins (`opening`) and at which node it is (`home`). "
      "Then one can say what no such journal can show, whatever the machine is."),
     ("The printed report", "definitions", (("am_office_report", "Report", "report"),),
      "The bytes that are printed for a journal: `report`. With it one can say what a printed line stands for."),

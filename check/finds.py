@@ -1,6 +1,7 @@
 #!/usr/bin/env python3
 """finds.py LAB [FIRST] [COUNT]: what `am2_lab find` answers, made again from the reports that `am2_lab schedule SEED` prints one after the other; and what `am2_lab faults`
-prints, made again from what `am2_lab scenario run` prints and from the second reading's own generator.
+prints, made again from what `am2_lab scenario run` prints and from the second reading's own generator. With `--faults` the reports are those of the scenarios that this
+generator draws, each by its seed.
 
 The scenarios are two examples, one that is refused, and COUNT random ones with turns from FIRST on (20 from 1). The words are beginnings of lines that some report of the range
 has, some with a star, some with their last word cut, so that they begin no line as whole words.
@@ -10,12 +11,12 @@ import random
 import subprocess
 import sys
 
-from made import drawn_plan
+from made import with_drawn_plan
 from randoms import threaded_script
-from scenario import read
 
 TOP = pathlib.Path(__file__).resolve().parent.parent
 NO_WORDS = [["find", "0..3"], ["find", "3", "fate"], ["find", "3..3", "fate"], ["faults", "1"], ["faults", "1", "101"], ["faults", "-1", "5"]]
+NO_WORDS += [["find", "0..3", "--faults", "20"], ["find", "0..3", "--faults", "101", "fate"], ["find", "--faults", "20", "0..3", "fate"], ["find", "0..3", "fate", "--faults", "20"]]
 
 
 class Lab:
@@ -49,13 +50,22 @@ def has_line(given, report):
 
 
 def due(reports, given, wanted, seeds):
-    """What `find` should answer, where these are the answers of `schedule` to the seeds."""
+    """What `find` should answer, where these are the answers of `schedule` to the seeds, each with what stands in front of it."""
     if reports[0][0] == 3:
-        return reports[0]
-    for seed, (status, report) in zip(seeds, reports):
+        return reports[0][:2]
+    for seed, (status, report, before) in zip(seeds, reports):
         if has_line(given, report) == wanted:
-            return status, f"seed {seed}\n{report}"
+            return status, f"seed {seed}\n{before}{report}"
     return 12, f"no such seed in {seeds.start}..{seeds.stop}\n"
+
+
+def reports_of(lab, text, seeds, percent):
+    """The answers of `schedule` to the seeds: to the scenario as it is, or to the one with the plan that the seed draws, which then stands in front."""
+    status, printed = lab.told(["scenario", "run"], text)
+    if percent is None or status:
+        return [(*lab.told(["schedule", seed], text), "") for seed in seeds]
+    drawn = [with_drawn_plan(printed, seed, percent) for seed in seeds]
+    return [(*lab.told(["schedule", seed], front), front) for seed, front in zip(seeds, drawn)]
 
 
 def some_words(choice, reports):
@@ -70,22 +80,17 @@ def some_words(choice, reports):
     return given
 
 
-def try_finding(lab, name, text, choice):
+def try_finding(lab, name, text, choice, percent):
     begin = choice.choice([0, 1, 77, 2**64 - 12])
     seeds = range(begin, begin + choice.randint(1, 11))
-    reports = [lab.told(["schedule", seed], text) for seed in seeds]
+    reports = reports_of(lab, text, seeds, percent)
+    faults = [] if percent is None else ["--faults", percent]
     for _ in range(12):
         given, wanted = some_words(choice, reports), choice.random() < 0.7
-        words = ["find", *([] if wanted else ["--not"]), f"{seeds.start}..{seeds.stop}", *given]
-        lab.check(f"{name}: {' '.join(words)}", lab.told(words, text) == due(reports, given, wanted, seeds))
-
-
-def with_plan(printed, plan):
-    """The printed scenario with this plan in place of its own."""
-    lines = [line for line in printed.splitlines() if not line.startswith("plan ")]
-    front = next(place for place, line in enumerate(lines + ["t"]) if line.startswith(("swapfault ", "t")) and line.split()[0] not in ("tries", "turns", "thread"))
-    drawn = [" ".join(["plan", *map(str, place), kind, *([str(late)] if late else [])]) for place, (kind, late) in plan.items()]
-    return "".join(line + "\n" for line in lines[:front] + drawn + lines[front:])
+        words = ["find", *([] if wanted else ["--not"]), f"{seeds.start}..{seeds.stop}", *faults, *given]
+        lab.check(f"{name}: {' '.join(map(str, words))}", lab.told(words, text) == due(reports, given, wanted, seeds))
+    if faults:
+        lab.check(f"{name}: schedule {seeds.start} --faults {percent}", lab.told(["schedule", seeds.start, *faults], text) == reports[0][:2])
 
 
 def try_faults(lab, name, text, choice):
@@ -94,8 +99,7 @@ def try_faults(lab, name, text, choice):
         seed = choice.choice([0, 1, 2**64 - 1, choice.randrange(2**64)])
         answer = (status, printed)
         if status == 0:
-            scenario = read(printed)
-            answer = 0, with_plan(printed, drawn_plan(seed, percent, scenario.nodes, len(scenario.script)))
+            answer = 0, with_drawn_plan(printed, seed, percent)
         lab.check(f"{name}: faults {seed} {percent}", lab.told(["faults", seed, percent], text) == answer)
 
 
@@ -104,7 +108,8 @@ def main(program, first=1, count=20):
     examples = [(name, (TOP / "examples" / name).read_text()) for name in ("turns-clients.am2", "run-withheld.am2", "run-plan.am2", "first.am2")]
     for name, text in examples + [(f"scenario {seed}", threaded_script(seed)) for seed in range(first, first + count)]:
         choice = random.Random(name)
-        try_finding(lab, name, text, choice)
+        try_finding(lab, name, text, choice, None)
+        try_finding(lab, name, text, choice, choice.choice([0, 100, choice.randint(1, 99)]))
         try_faults(lab, name, text, choice)
     for words in NO_WORDS:
         lab.check(" ".join(words), lab.told(words, examples[0][1]) == (2, ""))

@@ -29,7 +29,12 @@ FATES = {
     "ran": "a poll at its destination ran it",
     "unknown": "its last try timed out with no answer, and no poll ran it",
     "unknown-but-ran": "its last try timed out with no answer, and a poll ran it",
-    "pending": "nothing came of it before the end of the journal",
+}
+# Where a pending message is, by the word of the last outcome that moves it; once put it stays.
+PLACES = {
+    "sent": "it was sent, and no answer has come",
+    "requeued": "it was put back, to be sent again",
+    "accepted": "it was put at its destination, and no poll ran it",
 }
 
 
@@ -81,6 +86,13 @@ def why_of(scenario, plan, journal, fates, serial):
     return 0, reasons(plan, journal, fates, serial)
 
 
+def place_of(journal, serial):
+    """Where a pending message is."""
+    outcomes = [parts(line)[1] for line in journal]
+    moves = [it[0] for it in outcomes if it[1:2] == [serial] and it[0] in PLACES]
+    return "it waits to be sent" if not moves else PLACES["accepted" if "accepted" in moves else moves[-1]]
+
+
 def reasons(plan, journal, fates, serial):
     """What `why` should tell of a message."""
     out = []
@@ -101,6 +113,8 @@ def reasons(plan, journal, fates, serial):
         out.append(f"message {serial} was never accepted")
     elif fate[0] == "returned":
         out.append(f"message {serial} returned: {CAUSES[fate[1]]}")
+    elif fate[0] == "pending":
+        out.append(f"message {serial} pending: {place_of(journal, serial)}")
     else:
         out.append(f"message {serial} {fate[0]}: {FATES[fate[0]]}")
     return "\n".join(out) + "\n"

@@ -1,5 +1,5 @@
 """The scenario that `am2 make N` makes of the number N, and the plan that `am2_lab faults` draws from a seed, by a generator of random words."""
-from scenario import ALL, Declared, Scenario
+from scenario import ALL, Declared, Scenario, read
 
 
 class Words:
@@ -72,3 +72,17 @@ def drawn_plan(seed, percent, nodes, calls):
     places = [(sender, receiver, number) for sender in range(nodes) for receiver in range(nodes) for number in range(1, packets + 1)]
     drawn = [(place, words.next()) for place in places]
     return {place: fault_drawn(word) for place, word in drawn if word % 100 < percent}
+
+
+def with_plan(printed, plan):
+    """The printed scenario with this plan in place of its own."""
+    lines = [line for line in printed.splitlines() if not line.startswith("plan ")]
+    front = next(place for place, line in enumerate(lines + ["t"]) if line.startswith(("swapfault ", "t")) and line.split()[0] not in ("tries", "turns", "thread"))
+    drawn = [" ".join(["plan", *map(str, place), kind, *([str(late)] if late else [])]) for place, (kind, late) in plan.items()]
+    return "".join(line + "\n" for line in lines[:front] + drawn + lines[front:])
+
+
+def with_drawn_plan(printed, seed, percent):
+    """The printed scenario with the plan that the seed draws."""
+    scenario = read(printed)
+    return with_plan(printed, drawn_plan(seed, percent, scenario.nodes, len(scenario.script)))

@@ -1,5 +1,6 @@
 #!/usr/bin/env python3
-"""schedules.py LAB [FIRST] [COUNT]: what `am2_lab schedule SEED..SEED2` tells, made again from the reports that `am2_lab schedule SEED` prints of each seed alone.
+"""schedules.py LAB [FIRST] [COUNT]: what `am2_lab schedule SEED..SEED2` tells, made again from the reports that `am2_lab schedule SEED` prints of each seed alone; with
+`--faults` from those of the scenarios with the plans that the second reading's own generator draws.
 
 The scenarios are the examples with turns, one without, and COUNT random ones with turns from FIRST on (20 from 1), each with a range of seeds of its own. A range that is
 empty, too long or no range is refused. Of two threads that send each other requests forty seeds make at least thirty distinct journals.
@@ -9,6 +10,7 @@ import random
 import subprocess
 import sys
 
+from made import with_drawn_plan
 from randoms import threaded_script
 
 TOP = pathlib.Path(__file__).resolve().parent.parent
@@ -22,10 +24,18 @@ PAIR = "am2 1\nnetwork packet\nnodes 2\nturns 400\nendpoint 0 0 10\nendpoint 1 1
 )
 
 
-def told(lab, seeds, text):
+def told(lab, seeds, text, *faults):
     """The status and the output."""
-    done = subprocess.run([lab, "schedule", seeds], input=text.encode(), capture_output=True, check=False)
+    done = subprocess.run([lab, "schedule", seeds, *faults], input=text.encode(), capture_output=True, check=False)
     return done.returncode, done.stdout.decode()
+
+
+def drawn(lab, text, percent):
+    """The scenario by seed: as it is, or with the plan that the seed draws."""
+    done = subprocess.run([lab, "scenario", "run"], input=text.encode(), capture_output=True, check=False)
+    if percent is None or done.returncode:
+        return lambda seed: text
+    return lambda seed: with_drawn_plan(done.stdout.decode(), seed, percent)
 
 
 class Report:
@@ -47,9 +57,10 @@ class Report:
         return " ".join(["seed", str(self.seed), self.entries, self.totals, *other, *missed, *([self.full] if self.full else [])])
 
 
-def due(lab, seeds, text):
+def due(lab, seeds, text, percent):
     """What should be told of these seeds."""
-    alone = [(seed, *told(lab, str(seed), text)) for seed in seeds]
+    scenario = drawn(lab, text, percent)
+    alone = [(seed, *told(lab, str(seed), scenario(seed))) for seed in seeds]
     if alone[0][1] == 3:
         return 3, alone[0][2]
     reports = [Report(seed, printed) for seed, _, printed in alone]
@@ -66,13 +77,19 @@ def main(lab, first=1, count=20):
         choice = random.Random(name)
         begin = choice.choice([0, 1, 77, 2**64 - 12])
         seeds = range(begin, begin + choice.randint(1, 11))
-        asked, lines = asked + 1, lines + len(seeds)
-        if told(lab, f"{seeds.start}..{seeds.stop}", text) != due(lab, seeds, text):
-            wrong.append(f"{name}, seeds {seeds.start}..{seeds.stop}")
+        for percent in (None, choice.choice([0, 100, choice.randint(1, 99)])):
+            faults = [] if percent is None else ["--faults", str(percent)]
+            asked, lines = asked + 1, lines + len(seeds)
+            if told(lab, f"{seeds.start}..{seeds.stop}", text, *faults) != due(lab, seeds, text, percent):
+                wrong.append(f"{name}, seeds {seeds.start}..{seeds.stop} {' '.join(faults)}")
     for word in REFUSED:
         asked += 1
         if told(lab, word, examples[0][1]) != (2, ""):
             wrong.append(f"{word} was taken")
+    for faults in (["--faults"], ["--faults", "101"], ["--faults", "07"], ["--fault", "7"], ["7"]):
+        asked += 1
+        if told(lab, "0..5", examples[0][1], *faults) != (2, ""):
+            wrong.append(f"{' '.join(faults)} was taken")
     status, printed = told(lab, "0..40", PAIR)
     asked, lines = asked + 1, lines + 40
     if status != 0 or int(printed.split()[-1]) < 30:

@@ -19,7 +19,7 @@ use Rattle.am_channel.specs.declared.sending.TimedOut.{TimedOut}
 use Rattle.am_channel.specs.declared.sending.TimedOut.TheVariants as Times
 use Rattle.am_channel.specs.Sending.{timed_out, settled}
 use Rattle.am_channel.specs.declared.ends.Ends.{Ends}
-use Rattle.am_channel.specs.Calls.{Call, Bind, TimeOut, Answer, Arrive, Tells, TellsTimedOut, TellsTimeOut, settled_as, arrived_as}
+use Rattle.am_channel.specs.Calls.{Call, Bind, TimeOut, Answer, Arrive, TellsCall, TellsTimedOut, TellsTimeOut, settled_as, arrived_as}
 use Rattle.am_channel.specs.Counted.{AreCounted}
 use Rattle.am_channel.proofs.Pushes.{entry_is, kept}
 
@@ -95,7 +95,7 @@ expiry_elsewhere c d tries seq None x other tells = absurd tells
 expiry_elsewhere c d tries seq (Some b) x other tells = time_out_elsewhere c d b (timed_out tries seq b) x other tells
 
 -- what tells of a call on one channel does nothing to another
-pub call_elsewhere : (c d : Channel) (e : Ends) (call : Call) (x : Entry) → d ≢ c → Tells d e call x → IsElsewhere c x
+pub call_elsewhere : (c d : Channel) (e : Ends) (call : Call) (x : Entry) → d ≢ c → TellsCall d e call x → IsElsewhere c x
 call_elsewhere c d e (Bind m slot) x other tells =
     at c x (Events.Bind d.node tells.end) (Out.Sent m d.peer d.number (e.sending.seq + 1) 0 tells.number) tells.event tells.outcome
     (λ stamp. record { binds = apart c d other; sends = apart c d other; frees = refl; decides = refl })
@@ -106,6 +106,6 @@ call_elsewhere c d e (Arrive p v) x other tells =
     receipt_elsewhere c d tells.number p.seq p.attempt (arrived_as p.message tells.answer v (arrival e.receiving p.seq p.attempt)) x other tells.event
     tells.outcome
 
-pub call_apart : (c d : Channel) (log : List Entry) (e there : Ends) (call : Call) (x : Entry) → AreCounted c log e → Tells d there call x → d ≢ c →
+pub call_apart : (c d : Channel) (log : List Entry) (e there : Ends) (call : Call) (x : Entry) → AreCounted c log e → TellsCall d there call x → d ≢ c →
     AreCounted c (log ++ x ∷ []) e
 call_apart c d log e there call x is tells other = elsewhere_counted c log e x is (call_elsewhere c d there call x other tells)

@@ -6,7 +6,7 @@ use Rattle.am_model.specs.Channels.{Channel, same_channel}
 use Rattle.am_model.proofs.Names.{same_channel-refl}
 use Rattle.am_channel.specs.declared.ends.Ends.{Ends}
 use Rattle.am_channel.specs.Ends.{new_ends}
-use Rattle.am_channel.specs.Calls.{Tells, after}
+use Rattle.am_channel.specs.Calls.{TellsCall, after}
 use Rattle.am_channel.specs.Counted.{AreCounted}
 use Rattle.am_channel.specs.Folded.{Told, AreMade, changed, ends_after, entries_of}
 use Rattle.am_channel.proofs.Pushes.{call_counted}
@@ -18,7 +18,7 @@ new_counted c = record { seq = refl; bound = refl; attempt = tt; mark = refl }
 abbrev AllCounted : List Entry → (Channel → Ends) → Type 0
 AllCounted log ends = (c : Channel) → AreCounted c log (ends c)
 
-one_more : (log : List Entry) (ends : Channel → Ends) (t : Told) → AllCounted log ends → Tells t.channel (ends t.channel) t.call t.entry →
+one_more : (log : List Entry) (ends : Channel → Ends) (t : Told) → AllCounted log ends → TellsCall t.channel (ends t.channel) t.call t.entry →
     AllCounted (log ++ t.entry ∷ []) (changed ends t)
 one_more log ends t are tells c = by_test (same_channel c t.channel.node t.channel.peer t.channel.number) refl
   where
@@ -26,7 +26,7 @@ one_more log ends t are tells c = by_test (same_channel c t.channel.node t.chann
         AreCounted c (log ++ t.entry ∷ []) (if b then after (ends c) t.call else ends c)
     by_test true is =
         let here : t.channel ≡ c = same_channel-is c t.channel is in
-        call_counted c log (ends c) t.call t.entry (are c) (subst (λ (d : Channel). Tells d (ends d) t.call t.entry) here tells)
+        call_counted c log (ends c) t.call t.entry (are c) (subst (λ (d : Channel). TellsCall d (ends d) t.call t.entry) here tells)
     by_test false is =
         call_apart c t.channel log (ends c) (ends t.channel) t.call t.entry (are c) tells
         (λ here. true≢false (sym (subst (λ (d : Channel). same_channel c d.node d.peer d.number ≡ true) (sym here) (same_channel-refl c)) ∙ is))

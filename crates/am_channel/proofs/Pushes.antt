@@ -31,7 +31,7 @@ use Rattle.am_channel.specs.declared.sending.TimedOut.{TimedOut}
 use Rattle.am_channel.specs.declared.sending.TimedOut.TheVariants as Times
 use Rattle.am_channel.specs.Sending.{SendView, timed_out, unanswered, settled, bound_after}
 use Rattle.am_channel.specs.declared.ends.Ends.{Ends}
-use Rattle.am_channel.specs.Calls.{Call, Bind, TimeOut, Answer, Arrive, after, bound_later, mark_later, Tells, TellsBind, TellsTimedOut, TellsTimeOut}
+use Rattle.am_channel.specs.Calls.{Call, Bind, TimeOut, Answer, Arrive, after, bound_later, mark_later, TellsCall, TellsBind, TellsTimedOut, TellsTimeOut}
 use Rattle.am_channel.specs.Calls.{TellsAnswer, TellsArrival}
 use Rattle.am_channel.specs.Counted.{AreCounted}
 
@@ -251,7 +251,7 @@ arrival_counted c log s k p v Fresh x is tells =
     (verdict_decides p.message tells.answer v) (verdict_is_told p.message tells.answer v) is)
 
 -- the ends that a call leaves are those of the log with its entry
-pub call_counted : (c : Channel) (log : List Entry) (e : Ends) (call : Call) (x : Entry) → AreCounted c log e → Tells c e call x →
+pub call_counted : (c : Channel) (log : List Entry) (e : Ends) (call : Call) (x : Entry) → AreCounted c log e → TellsCall c e call x →
     AreCounted c (log ++ x ∷ []) (after e call)
 call_counted c log e (Bind m slot) x is tells = bind_counted c log e m slot x is tells
 call_counted c log e (TimeOut tries) x is tells = expiry_counted c log e.sending.seq tries e.sending.bound e.receiving x is tells

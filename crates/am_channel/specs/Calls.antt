@@ -109,8 +109,8 @@ pub record TellsArrival (c : Channel) (p : Parcel) (verdict : Verdict) (arrival 
   pub outcome : x.outcome ≡ Out.Received c.number p.seq p.attempt (arrived_as p.message answer verdict arrival)
 
 -- the entry tells what the call answered
-abbrev pub Tells : Channel → Ends → Call → Entry → Type 0
-Tells c e (Bind m slot) x = TellsBind c m (e.sending.seq + 1) x
-Tells c e (TimeOut tries) x = TellsTimeOut c tries e.sending.seq e.sending.bound x
-Tells c e (Answer p) x = TellsAnswer c p (settled e.sending p) x
-Tells c e (Arrive p verdict) x = TellsArrival c p verdict (arrival e.receiving p.seq p.attempt) x
+abbrev pub TellsCall : Channel → Ends → Call → Entry → Type 0
+TellsCall c e (Bind m slot) x = TellsBind c m (e.sending.seq + 1) x
+TellsCall c e (TimeOut tries) x = TellsTimeOut c tries e.sending.seq e.sending.bound x
+TellsCall c e (Answer p) x = TellsAnswer c p (settled e.sending p) x
+TellsCall c e (Arrive p verdict) x = TellsArrival c p verdict (arrival e.receiving p.seq p.attempt) x

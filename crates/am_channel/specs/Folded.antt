@@ -3,7 +3,7 @@ use Rattle.std.specs.Prelude.{List, [], ◌∷◌, map, if◌then◌else◌}
 use Rattle.am_office_entries.specs.declared.Entry.{Entry}
 use Rattle.am_model.specs.Channels.{Channel, same_channel}
 use Rattle.am_channel.specs.declared.ends.Ends.{Ends}
-use Rattle.am_channel.specs.Calls.{Call, IsCallable, Tells, after}
+use Rattle.am_channel.specs.Calls.{Call, IsCallable, TellsCall, after}
 
 -- a call on the ends of a channel, and an entry that tells of it
 pub record Told : Type 0 where
@@ -28,4 +28,4 @@ ends_after ends (t ∷ told) = ends_after (changed ends t) told
 abbrev pub AreMade : (Channel → Ends) → List Told → Type 0
 AreMade ends [] = Unit {0}
 AreMade ends (t ∷ told) =
-    IsCallable (ends t.channel) t.call × Tells t.channel (ends t.channel) t.call t.entry × AreMade (changed ends t) told
+    IsCallable (ends t.channel) t.call × TellsCall t.channel (ends t.channel) t.call t.entry × AreMade (changed ends t) told

@@ -2,7 +2,7 @@
 
 ghost use Rattle.am_channel.specs.Ends.{new_ends};
 ghost use Rattle.am_channel.specs.declared.ends.Ends.{Ends};
-ghost use Rattle.am_channel.specs.Calls.{Call, Tells, after};
+ghost use Rattle.am_channel.specs.Calls.{Call, TellsCall, after};
 ghost use Rattle.am_channel.specs.Counted.{AreCounted};
 ghost use Rattle.am_channel.specs.Folded.{Told, AreMade, ends_after, entries_of};
 ghost use Rattle.am_channel.specs.Lost as lost;
@@ -19,12 +19,12 @@ pub fn new_ends_are_counted()
 /// Where the ends of a channel are counted in a log, and a call is made on them, the ends that the call leaves are
 /// counted in the log with the entry that tells of the call.
 pub fn a_call_is_counted()
-    ensures { (c : Channel) (log : List Entry) (ends : Ends) (call : Call) (x : Entry) → AreCounted c log ends → Tells c ends call x → AreCounted c (log ++ x ∷ []) (after ends call) }
+    ensures { (c : Channel) (log : List Entry) (ends : Ends) (call : Call) (x : Entry) → AreCounted c log ends → TellsCall c ends call x → AreCounted c (log ++ x ∷ []) (after ends call) }
 {}
 
 /// So are the ends of every other channel, as they were.
 pub fn a_call_leaves_other_channels()
-    ensures { (c d : Channel) (log : List Entry) (ends at : Ends) (call : Call) (x : Entry) → AreCounted c log ends → Tells d at call x → d ≢ c → AreCounted c (log ++ x ∷ []) ends }
+    ensures { (c d : Channel) (log : List Entry) (ends at : Ends) (call : Call) (x : Entry) → AreCounted c log ends → TellsCall d at call x → d ≢ c → AreCounted c (log ++ x ∷ []) ends }
 {}
 
 /// Whichever binds, time-outs, answers and arrivals are made on the ends of whichever channels, each where its

@@ -19,7 +19,7 @@ use Rattle.am_office_entries.specs.declared.Event.TheVariants as Events
 use Rattle.am_office_text.specs.Words.{Word, tag, serial}
 use Rattle.am_office_text.specs.EntryLines.Lines.{who, what, actor, interface, driver, call, handler_kind, mask}
 use Rattle.am_check_lines.specs.Grammar.{IsByte, IsFourBytes, IsEightBytes, IsSerial, AreNumbersOf, AreNumbersOfCall, AreNumbersOfKind}
-use Rattle.am_check_lines.specs.Reading.{Read, word_at, number_at, byte_at, count_at, long_at, end_at, node_at, tag_at, serial_at, numbered, head_of}
+use Rattle.am_check_lines.specs.Reading.{Read, word_at, number_at, byte_at, count_at, long_at, end_at, node_at, tag_at, serial_at, lettered, head_of}
 use Rattle.am_check_lines.specs.Reading.{request_at, poll_at, set_tag_at, map_at, unmap_at, echo_at, add_at, kind_at, set_handler_at, give_up_at, close_at}
 use Rattle.am_check_lines.specs.Reading.{mask_at, test_at, call_at, call_event_at, want_at, thread_at, carry_at, outside_at, bind_at, expire_at, receive_at}
 use Rattle.am_check_lines.specs.Reading.{interface_at, load_at, move_at, driver_at, happening_at, event_at}
@@ -110,7 +110,7 @@ thread_calls t e Calls.Close rest = refl
 thread_calls t e (Calls.Test m) rest = refl
 
 pub event_back : (e : Event) (rest : List Word) → AreNumbersOf e → event_at (who e ∷ (what e ++ rest)) ≡ Some (e, rest)
-unfolding event_at word_at who what actor interface driver head_of numbered happening_at want_at thread_at carry_at outside_at bind_at expire_at receive_at
+unfolding event_at word_at who what actor interface driver head_of lettered happening_at want_at thread_at carry_at outside_at bind_at expire_at receive_at
     interface_at load_at move_at driver_at
 event_back (Events.Call (Actors.Thread t) e c) rest n = rw (byte_read t n.0) (thread_calls t e c rest ∙ call_back (Actors.Thread t) e c rest n.1 n.2)
 event_back (Events.Call Actors.Outside e c) rest n = outside_calls e c rest ∙ call_back Actors.Outside e c rest n.1 n.2

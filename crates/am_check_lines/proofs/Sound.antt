@@ -31,7 +31,7 @@ use Rattle.am_check_lines.specs.declared.words.Head.{Head}
 use Rattle.am_check_lines.specs.declared.words.Head.TheVariants as Heads
 use Rattle.am_check_lines.specs.Grammar.{IsByte, IsFourBytes, IsEightBytes, IsSerial, AreNumbersOf, AreNumbersOfCall, AreNumbersOfKind, IsNumberOfActor}
 use Rattle.am_check_lines.specs.Reading.{word_at, printed_number, number_up_to, number_at, byte_at, count_at, long_at, end_at, node_at, tag_of, tag_at}
-use Rattle.am_check_lines.specs.Reading.{serial_of, serial_at, numbered, head_of, request_at, poll_at, set_tag_at, map_at, unmap_at, echo_at, add_at, kind_at}
+use Rattle.am_check_lines.specs.Reading.{serial_of, serial_at, lettered, head_of, request_at, poll_at, set_tag_at, map_at, unmap_at, echo_at, add_at, kind_at}
 use Rattle.am_check_lines.specs.Reading.{set_handler_at, give_up_at, close_at, mask_at, test_at, call_at, call_event_at, want_at, thread_at, carry_at}
 use Rattle.am_check_lines.specs.Reading.{outside_at, bind_at, expire_at, receive_at, interface_at, load_at, move_at, driver_at, happening_at, event_at}
 use Rattle.am_check_lines.proofs.Decimals.{read_decimal}
@@ -482,9 +482,9 @@ by_letter l k x y r P e here next = elim (cases_Bool (eqb l k)) [
   | inr f ↦ next (sym (rw f refl) ∙ e)
 ]
 
-numbered_is : (letter : ℕ) (digits : Word) (h : Head) → numbered letter digits ≡ Some h → IsHeadOf (letter ∷ digits) h
-unfolding numbered
-numbered_is letter digits h e =
+lettered_is : (letter : ℕ) (digits : Word) (h : Head) → lettered letter digits ≡ Some h → IsHeadOf (letter ∷ digits) h
+unfolding lettered
+lettered_is letter digits h e =
     let a = bind_some (number_up_to 255 digits) _ h e in
     let p = up_to_is 255 digits a.0 a.1 in
     let small : IsByte a.0 = omega (arith, p.1) in
@@ -498,7 +498,7 @@ unfolding head_of
 head_is [] h e = absurd (cc e)
 head_is (letter ∷ digits) h e =
     either (letter ∷ digits) (codes "x") _ _ h (IsHeadOf (letter ∷ digits) h) e (λ w s. got _ h (IsHeadOf (letter ∷ digits)) s w)
-    (λ s. numbered_is letter digits h s)
+    (λ s. lettered_is letter digits h s)
 
 happening_is : (word verb : Word) (words : List Word) (h : Head) (r : Event × List Word) → IsHeadOf word h → happening_at h verb words ≡ Some r →
     IsEventRead word verb words r

@@ -116,8 +116,8 @@ serial_at words = do
   Some (serial, word.1)
 
 -- who acts: anyone outside, a thread, an interface or a driver
-unfoldable pub numbered : ℕ → List ℕ → Option Head
-numbered letter digits = do
+unfoldable pub lettered : ℕ → List ℕ → Option Head
+lettered letter digits = do
   number ← number_up_to 255 digits
   if letter == 116 then Some (Heads.OfThread number) else
       if letter == 105 then Some (Heads.OfInterface (record { 0 = number })) else
@@ -125,7 +125,7 @@ numbered letter digits = do
 
 unfoldable pub head_of : Word → Option Head
 head_of [] = None
-head_of (letter ∷ digits) = if bytes_eq (letter ∷ digits) (codes "x") then Some Heads.Outside else numbered letter digits
+head_of (letter ∷ digits) = if bytes_eq (letter ∷ digits) (codes "x") then Some Heads.Outside else lettered letter digits
 
 -- request E I H A B C D
 unfoldable pub request_at : List Word → Read (EndpointId × Call)

@@ -1,6 +1,6 @@
 //! The words of an event: who acts, a verb and the words behind it.
 
-ghost use Rattle.am_check_lines.specs.Reading.{Gives, words_behind, words_in, numbered, head_of, call_event_at, want_at, thread_at, carry_at, outside_at, bind_at, expire_at, receive_at, interface_at, load_at, driver_at, happening_at, event_at};
+ghost use Rattle.am_check_lines.specs.Reading.{Gives, words_behind, words_in, lettered, head_of, call_event_at, want_at, thread_at, carry_at, outside_at, bind_at, expire_at, receive_at, interface_at, load_at, driver_at, happening_at, event_at};
 ghost use Rattle.std.specs.Prelude.{◌≡◌};
 
 use crate::calls::take_call;
@@ -9,9 +9,9 @@ use crate::words::{Head, split_word, take_word};
 use am_names::NodeId;
 use am_office_entries::{Actor, Event};
 
-#[tactic(auto, unfolding(crate::specs::Reading::numbered))]
-fn numbered(letter: u8, digits: &[u8]) -> Option<Head>
-    ensures { result ≡ numbered letter digits.now }
+#[tactic(auto, unfolding(crate::specs::Reading::lettered))]
+fn lettered(letter: u8, digits: &[u8]) -> Option<Head>
+    ensures { result ≡ lettered letter digits.now }
 {
     let number = byte_of(digits)?;
     match letter {
@@ -28,7 +28,7 @@ fn head_of(word: &[u8]) -> Option<Head>
 {
     match word {
         [b'x'] => Some(Head::Outside),
-        [letter, digits @ ..] => numbered(*letter, digits),
+        [letter, digits @ ..] => lettered(*letter, digits),
         [] => None,
     }
 }

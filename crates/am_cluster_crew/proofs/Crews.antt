@@ -33,7 +33,7 @@ use Rattle.am_cluster_crew.specs.Uniting.Teams.{keeper_in, node_end, thread_of, 
 use Rattle.am_cluster_crew.proofs.Counted.{receipts_count}
 use Rattle.am_cluster_crew.proofs.Seated.{teams_gather}
 use Rattle.am_cluster_crew.proofs.Teams.{teams_unite}
-use Rattle.am_cluster_crew.specs.Ends.Ends.{AreBooksOf, AreLeft, CrewsGather, CrewsUnite, IsPartOfCrew, gathered_all, pass_of, whole_of}
+use Rattle.am_cluster_crew.specs.Ends.Ends.{AreBooksOf, AreLeft, CrewsGather, CrewsUnite, IsPartOfCrew, gathered_all, thread_pass, whole_of}
 
 -- ---- words on lists
 
@@ -53,7 +53,7 @@ module _ (s : ScenarioLists) (table : TableId) (ids : Ids) (turns : ℕ) where
   rest_at_work w ws f = λ k u at. f (suc k) u at
 
   abbrev team_thread : (w : ThreadWorker) → IsThreadAtWork s table ids turns w → TeamThread
-  team_thread w h = record { thread = w.thread; made = h.works.made; pass = pass_of w }
+  team_thread w h = record { thread = w.thread; made = h.works.made; pass = thread_pass w }
 
   abbrev team_threads : (ws : List ThreadWorker) → AreAtWork ws → List TeamThread
   team_threads [] f = []
@@ -81,13 +81,13 @@ module _ (s : ScenarioLists) (table : TableId) (ids : Ids) (turns : ℕ) where
   same_names (w ∷ ws) f = ap (λ (ns : List ℕ). w.thread ∷ ns) (same_names ws (rest_at_work w ws f))
 
   same_gathering : (v : EndPass) (ws : List ThreadWorker) (f : AreAtWork ws) (u : Worker) →
-      gathering v (map worker_of_thread (team_threads ws f) ++ u ∷ []) ≡ gathered_all v (map pass_of ws ++ u.pass ∷ [])
+      gathering v (map worker_of_thread (team_threads ws f) ++ u ∷ []) ≡ gathered_all v (map thread_pass ws ++ u.pass ∷ [])
   same_gathering v [] f u = refl
-  same_gathering v (w ∷ ws) f u = same_gathering (gathered v (pass_of w)) ws (rest_at_work w ws f) u
+  same_gathering v (w ∷ ws) f u = same_gathering (gathered v (thread_pass w)) ws (rest_at_work w ws f) u
 
   -- the marks go on from n
   marks : (n : ℕ) (ws : List ThreadWorker) (f : AreAtWork ws) (u d : Worker) → ((k : ℕ) (w : ThreadWorker) → slice_get ws k ≡ Some w →
-      (pass_of w).mark ≡ k + n) → u.pass.mark ≡ length ws + n → d.pass.mark ≡ length ws + n + 1
+      (thread_pass w).mark ≡ k + n) → u.pass.mark ≡ length ws + n → d.pass.mark ≡ length ws + n + 1
       → (k : ℕ) (w : Worker) → slice_get ((map worker_of_thread (team_threads ws f) ++ u ∷ []) ++ d ∷ []) k ≡ Some w → w.pass.mark ≡ k + n
   marks n [] f u d each is last zero w at = ap (λ (z : Worker). z.pass.mark) (sym (same_Some u w at)) ∙ is
   marks n [] f u d each is last (suc zero) w at = ap (λ (z : Worker). z.pass.mark) (sym (same_Some d w at)) ∙ (omega (arith, last))

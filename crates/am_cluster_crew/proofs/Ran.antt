@@ -1,7 +1,7 @@
 -- The crews of all nodes after their workers' turns.
 use Rattle.std.specs.Prelude.{slice_get}
 use Rattle.std.specs.Global.{Vec}
-use Rattle.std.proofs.Common.{◌≡◌, ℕ, zero, suc, ◌+◌, ◌*◌, ◌≤◌, List, [], ◌∷◌, map, length, Some, refl, sym, ap, ◌∙◌, subst, arith}
+use Rattle.std.proofs.Common.{◌≡◌, ℕ, zero, suc, ◌+◌, ◌*◌, ◌≤◌, List, [], ◌∷◌, map, length, Option, None, Some, refl, sym, ap, ◌∙◌, subst, arith}
 use Rattle.std.proofs.lemmas.List.{length-map}
 use Rattle.std.proofs.lemmas.Option.{slice_get_within}
 use Rattle.am_lemmas.proofs.Lists.{slice_get-Some}
@@ -93,13 +93,19 @@ pub few_in_each : (s : ScenarioLists) (turns : ℕ) (crews : List NodeCrew) → 
     slice_get crews k ≡ Some c → length c.threads.items ≤ 4
 few_in_each s turns crews ok h k c at = few_workers s (node_at k) turns c ok (h.each k c at)
 
+-- the first number of a crew that was read
+abbrev first_in : Option NodeCrew → ℕ
+first_in None = 0
+first_in (Some c) = c.first
+
 -- each first number is small, where no crew has more than four threads
 pub numbers_are_small : (first : ℕ) (crews : List NodeCrew) → AreNumbered first crews → ((k : ℕ) (c : NodeCrew) → slice_get crews k ≡ Some c →
     length c.threads.items ≤ 4) → (k : ℕ) (c : NodeCrew) → slice_get crews k ≡ Some c → c.first ≤ first + 6 * k
 numbers_are_small first [] h few k c at = absurd (cc)
 numbers_are_small first (d ∷ ds) h few zero c at =
-    let same : d ≡ c = cc in
-    subst (λ (x : NodeCrew). x.first ≤ first + 6 * 0) same (let e = h.0 in omega (arith, e))
+    let same : d.first ≡ c.first = ap first_in at in
+    let e = h.0 in
+    omega (arith, same, e)
 numbers_are_small first (d ∷ ds) h few (suc k) c at =
     let more : c.first ≤ first + seats_of d + 6 * k = numbers_are_small (first + seats_of d) ds h.1 (λ j x e. few (suc j) x e) k c at in
     let four = few 0 d refl in

@@ -2,8 +2,9 @@
 use Rattle.std.specs.Prelude.{◌≡◌, ℕ, ◌<◌, Bool, true, false, ◌||◌, Option, Some, List, length, slice_get}
 use Rattle.std.specs.List.{list_any}
 use Rattle.am_names.specs.declared.NodeId.{NodeId}
+use Rattle.am_places.specs.Seats.{pass_of, table_in}
 use Rattle.am_model_parts.specs.Together.{ends_of}
-use Rattle.am_cluster_opening.specs.Node.Openings.{EndPlaces, table_in}
+use Rattle.am_cluster_opening.specs.Node.Openings.{EndPlaces}
 use Rattle.am_scenario_types.specs.Lists.{ScenarioLists}
 use Rattle.am_scenario_types.specs.Lawful.{IsLawful}
 use Rattle.am_scenario_types.specs.declared.parts.Network.TheVariants as Networks
@@ -48,7 +49,7 @@ pub record AreBothAt (s : ScenarioLists) (node : NodeId) (p : EndPlaces) (turns 
 -- ---- what no turn changes
 
 pub record SameThread (v w : ThreadWorker) : Type 0 where
-  pub seat : SameSeat v.seat.token.me.0 w.seat.token.me.0
+  pub seat : SameSeat (pass_of v.seat) (pass_of w.seat)
   pub thread : w.thread ≡ v.thread
 
 -- the threads of a node have made their turns
@@ -58,12 +59,12 @@ pub record HaveRun (s : ScenarioLists) (p : EndPlaces) (vs ws : List ThreadWorke
   pub same : (k : ℕ) (v w : ThreadWorker) → slice_get vs k ≡ Some v → slice_get ws k ≡ Some w → SameThread v w
 
 pub record SameInterface (v w : InterfaceWorker) : Type 0 where
-  pub seat : SameSeat v.seat.token.me.0 w.seat.token.me.0
+  pub seat : SameSeat (pass_of v.seat) (pass_of w.seat)
   pub outs : SameOuts v.outs.items w.outs.items
   pub ins : SameIns v.ins.items w.ins.items
 
 pub record SameDriver (v w : DriverWorker) : Type 0 where
-  pub seat : SameSeat v.seat.token.me.0 w.seat.token.me.0
+  pub seat : SameSeat (pass_of v.seat) (pass_of w.seat)
   pub node : w.node ≡ v.node
 
 -- the interface and the driver are the same

@@ -1,13 +1,13 @@
 //! How a node's phase ends: its driver gathers the other seats, and takes the endpoints out.
 
 ghost use Rattle.am_cluster_crew.specs.Ending.{AreEnded, AreTakenOut, HasRoom, IsEndedOf};
-ghost use Rattle.am_cluster_crew.specs.Ends.Ends.{gathered_all, pass_of};
+ghost use Rattle.am_cluster_crew.specs.Ends.Ends.{gathered_all, thread_pass};
 ghost use Rattle.am_workers_laws.specs.Ended.{ComesTo};
 ghost use Rattle.am_cluster_opening.specs.Crews.{AreCrews, IsCrew};
-ghost use Rattle.am_cluster_opening.specs.Node.Openings.{table_in};
 ghost use Rattle.am_office_entries.specs.declared.Entry.{Entry};
 ghost use Rattle.am_places.specs.Rule.{HasGathered, IsOutside, inside_with, known_at, with_known};
 ghost use Rattle.am_places.specs.declared.board.Tenure.{Tenure};
+ghost use Rattle.am_places.specs.Seats.{SitsAt, hand_of, me_of, pass_of, table_in};
 ghost use Rattle.am_workers_laws.specs.Books.Books.{stands_at};
 ghost use Rattle.am_workers.specs.declared.workers.ThreadWorker.{ThreadWorker};
 ghost use Rattle.am_workers_laws.specs.Invariants.Seats.{IsIdle};
@@ -25,10 +25,10 @@ use std::alloc::Global;
 
 /// The driver's seat gathers the seats of the threads.
 fn gather_threads(places: &Places<EndBook>, keeper: &mut Seat<EndBook>, threads: Vec<ThreadWorker>)
-    requires keeper { keeper.old.token.table_id ≡ table_in places.now }
+    requires keeper { SitsAt places.now keeper.old }
     requires ended { All (λ w. IsIdle (table_in places.now) w.seat.token) threads.items }
     ensures keeper { keeper.new.token.table_id ≡ keeper.old.token.table_id }
-    ensures gathered { keeper.new.token.me ≡ (gathered_all keeper.old.token.me.0 (map pass_of threads.items), keeper.old.token.me.1) }
+    ensures gathered { me_of keeper.new ≡ (gathered_all (pass_of keeper.old) (map thread_pass threads.items), hand_of keeper.old) }
 {
     for worker in threads {
         let ThreadWorker { seat, .. } = worker;
@@ -38,12 +38,12 @@ fn gather_threads(places: &Places<EndBook>, keeper: &mut Seat<EndBook>, threads:
 
 /// Takes out the endpoint at this place, which was not taken out before.
 fn take_out(places: &Places<EndBook>, keeper: &mut Seat<EndBook>, at: usize) -> EndBook
-    requires keeper { keeper.old.token.table_id ≡ table_in places.now }
+    requires keeper { SitsAt places.now keeper.old }
     requires at { at < places.now.count }
-    requires gathered { HasGathered keeper.old.token.me.0 }
-    requires outside { (known_at at keeper.old.token.me.0).inside ≡ false }
+    requires gathered { HasGathered (pass_of keeper.old) }
+    requires outside { (known_at at (pass_of keeper.old)).inside ≡ false }
     ensures keeper { keeper.new.token.table_id ≡ keeper.old.token.table_id }
-    ensures book { (log : List (Tenure Entry)) × ComesTo at keeper.old.token.me log result × (keeper.new.token.me ≡ (with_known at (inside_with (stands_at result.end.value) log (known_at at keeper.old.token.me.0)) keeper.old.token.me.0, (at, None) ∷ keeper.old.token.me.1)) }
+    ensures book { (log : List (Tenure Entry)) × ComesTo at (me_of keeper.old) log result × (me_of keeper.new ≡ (with_known at (inside_with (stands_at result.end.value) log (known_at at (pass_of keeper.old))) (pass_of keeper.old), (at, None) ∷ hand_of keeper.old)) }
 {
     match places.take_out_at(keeper, at) {
         Some(book) => book,
@@ -57,13 +57,13 @@ fn take_out_all(
     keeper: &mut Seat<EndBook>,
     mut books: Vec<EndBook>,
 ) -> Vec<EndBook>
-    requires keeper { keeper.old.token.table_id ≡ table_in places.now }
-    requires gathered { HasGathered keeper.old.token.me.0 }
-    requires outside { IsOutside keeper.old.token.me.0 }
-    requires wide { length keeper.old.token.me.0.known ≡ places.now.count }
+    requires keeper { SitsAt places.now keeper.old }
+    requires gathered { HasGathered (pass_of keeper.old) }
+    requires outside { IsOutside (pass_of keeper.old) }
+    requires wide { length (pass_of keeper.old).known ≡ places.now.count }
     requires none { books.items ≡ [] }
     requires room { places.now.count ≤ vec_capacity books }
-    ensures taken { AreTakenOut places.now.count keeper.old.token.me.0 result.items }
+    ensures taken { AreTakenOut places.now.count (pass_of keeper.old) result.items }
 {
     for at in 0..places.count {
         let book = take_out(places, keeper, at);

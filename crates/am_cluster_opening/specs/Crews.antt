@@ -2,6 +2,7 @@
 use Rattle.std.specs.Prelude.{◌≡◌, ℕ, ◌+◌, Some, None, List, [], ◌∷◌, length, map, slice_get}
 use Rattle.atomic_table.specs.Seated.{TableId}
 use Rattle.am_names.specs.declared.NodeId.{NodeId}
+use Rattle.am_places.specs.Seats.{pass_of, table_in}
 use Rattle.am_model.specs.Layout.{node_at}
 use Rattle.am_endpoint_body.specs.declared.settings.EndSettings.{EndSettings}
 use Rattle.am_model_parts.specs.Together.{ends_of}
@@ -11,7 +12,7 @@ use Rattle.am_wire.specs.Links.{IsLink, emitted, pumped, received}
 use Rattle.am_wire.specs.declared.receiving.LinkIn.{LinkIn}
 use Rattle.am_wire.specs.declared.sending.LinkOut.{LinkOut}
 use Rattle.am_workers_laws.specs.Invariants.Seats.{EndPass, Ids}
-use Rattle.am_cluster_opening.specs.Node.Openings.{AreDeclared, table_in, threads_of}
+use Rattle.am_cluster_opening.specs.Node.Openings.{AreDeclared, threads_of}
 use Rattle.am_workers.specs.AtWork.{IsDriverAtWork, IsInterfaceAtWork, IsThreadAtWork}
 use Rattle.am_workers.specs.declared.workers.ThreadWorker.{ThreadWorker}
 use Rattle.am_cluster_opening.specs.declared.crew.NodeCrew.{NodeCrew}
@@ -37,7 +38,7 @@ seats_of c = length c.threads.items + 2
 -- the thread is between turns, of which it made at most so many, and has the seat with its place among the threads
 pub record IsThreadOf (s : ScenarioLists) (births : List EndSettings) (turns : ℕ) (c : NodeCrew) (k : ℕ) (w : ThreadWorker) : Type 0 where
   pub at_work : IsThreadAtWork s (table_of c) (ids_of c) turns w
-  pub seat : IsSeatOf births (seats_of c) (k + 1) w.seat.token.me.0
+  pub seat : IsSeatOf births (seats_of c) (k + 1) (pass_of w.seat)
 
 -- the crew of a node of the scenario between turns, of which each worker made at most so many
 pub record IsCrew (s : ScenarioLists) (node : NodeId) (turns : ℕ) (c : NodeCrew) : Type 0 where
@@ -49,9 +50,9 @@ pub record IsCrew (s : ScenarioLists) (node : NodeId) (turns : ℕ) (c : NodeCre
   pub named : map (λ (w : ThreadWorker). w.thread) c.threads.items ≡ threads_of s node
   pub threads : (k : ℕ) (w : ThreadWorker) → slice_get c.threads.items k ≡ Some w → IsThreadOf s births turns c k w
   pub interface : IsInterfaceAtWork s (table_of c) (ids_of c) node turns c.interface
-  pub interface_seat : IsSeatOf births (seats_of c) (length c.threads.items + 1) c.interface.seat.token.me.0
+  pub interface_seat : IsSeatOf births (seats_of c) (length c.threads.items + 1) (pass_of c.interface.seat)
   pub driver : IsDriverAtWork s (table_of c) (ids_of c) node turns c.driver
-  pub driver_seat : IsSeatOf births (seats_of c) (seats_of c) c.driver.seat.token.me.0
+  pub driver_seat : IsSeatOf births (seats_of c) (seats_of c) (pass_of c.driver.seat)
 
 -- ---- the crews of all nodes
 

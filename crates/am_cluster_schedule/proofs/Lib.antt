@@ -1,3 +1,4 @@
+mod Driven
 mod Fair
 mod Linked
 mod InTurn

@@ -19,7 +19,7 @@ use Rattle.am_workers_laws.specs.Invariants.Seats.{EndPass, Ids, Stayed, seen_lo
 use Rattle.am_workers.specs.Turns.Callers.{CallTurns, due_of}
 use Rattle.am_workers.specs.Turns.Chosen.{chosen_work}
 use Rattle.am_workers.specs.Turns.Tests.{can_do, is_fit, may_alone}
-use Rattle.am_workers.specs.Turns.Turns.{Alone, FoundAlone, FoundAt, FoundThere, IsCall, IsDone, IsDue, IsWant, ThreadFound, ThreadTurns, WhyTurned, With, WorkTurns, clock_after}
+use Rattle.am_workers.specs.Turns.Turns.{Alone, FoundAlone, FoundAt, FoundThere, IsCall, IsDone, IsCallDue, IsWant, ThreadFound, ThreadTurns, WhyTurned, With, WorkTurns, clock_after}
 use Rattle.am_workers.specs.Stops.{stop_after_call, stop_after_work}
 use Rattle.am_workers.specs.WorkerTurns.{clock_by, Does, DoesWork, Starved, Turned}
 use Rattle.am_workers.specs.declared.turns.turns.InterfaceTurn.{InterfaceTurn}
@@ -159,7 +159,7 @@ module _ (ids : Ids) (v w : ThreadWorker) (h : HasCall ids v) where
   abbrev Comes : Type 0
   Comes = ComesTo (AddsOne v w) w.stop v.seat.token.me.0 w.seat.token.me.0
 
-  by_turn : (t : ThreadTurn) (k : ℕ) (call : Call) → get_elem? v.seat.token.me.0.births k ≡ some h.set → IsDue v.clock h.set (seen_log k v.seat.token.me.0) →
+  by_turn : (t : ThreadTurn) (k : ℕ) (call : Call) → get_elem? v.seat.token.me.0.births k ≡ some h.set → IsCallDue v.clock h.set (seen_log k v.seat.token.me.0) →
       ThreadTurns k v.thread call v.clock v.seat.token.me.0 w.seat.token.me.0 t → w.clock ≡ clock_after v.clock t → w.stop ≡ stop_after_call (Some t) → Comes
   by_turn (Turns.Made x) k call born due s clock stop =
       Makes (
@@ -195,7 +195,7 @@ module _ (ids : Ids) (v w : ThreadWorker) (h : HasCall ids v) where
       let same : h.k ≡ turn.0 =
       ap (λ (p : ℕ × Call). p.0) (same_call (due_of ids (slice_get v.script.items v.next)) (h.k, h.call) (turn.0, turn.1) h.next turn.2) in
       by_turn t turn.0 turn.1 (subst (λ (k : ℕ). get_elem? v.seat.token.me.0.births k ≡ some h.set) same h.born)
-      (subst (λ (k : ℕ). IsDue v.clock h.set (seen_log k v.seat.token.me.0)) same h.due) turn.3 clock stop
+      (subst (λ (k : ℕ). IsCallDue v.clock h.set (seen_log k v.seat.token.me.0)) same h.due) turn.3 clock stop
 
 pub threads_make : ThreadsMake
 threads_make ids v w h t = called ids v w h t.made t.turn t.clock t.stop

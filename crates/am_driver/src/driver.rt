@@ -14,6 +14,7 @@ ghost use Rattle.am_driver.specs.Turns.{DriverTurns, IsMadeFor, MoveTurns};
 ghost use Rattle.std.specs.Prelude.{◌≡◌, ◌+◌, ◌<◌, ℕ, Some, length, position};
 ghost use lib.ListN.{get_elem?};
 ghost use mathlib.Core.Option.{some};
+ghost use Rattle.am_places.specs.Seats.{pass_of, table_in};
 
 use crate::looks::look_at_each;
 use crate::moves::decide;
@@ -85,15 +86,15 @@ fn move_turn<S: Look>(
     chosen: Move,
     event: Event,
 ) -> Result<DriverTurn, DriverFault>
-    requires idle { IsIdle places.now.board.shared.table_id seat.old.token }
+    requires idle { IsIdle (table_in places.now) seat.old.token }
     requires at { at < places.now.count }
     requires count { places.now.count ≡ length view.old.ends }
-    requires can { CanDrive places.now.frames node view.old (S.device swap.old) seat.old.token.me.0 }
+    requires can { CanDrive places.now.frames node view.old (S.device swap.old) (pass_of seat.old) }
     requires chosen { chosen ≡ rules.next_move view.old }
     requires event { shown.event_of node chosen ≡ Some event }
-    requires end { (set : EndSettings) → get_elem? seat.old.token.me.0.births at ≡ some set → end_moved event ≡ Some set.id }
-    ensures idle { IsIdle places.now.board.shared.table_id seat.new.token }
-    ensures turn { MoveTurns node at clock.old clock.new view.old view.new (S.device swap.old) (S.device swap.new) seat.old.token.me.0 seat.new.token.me.0 result }
+    requires end { (set : EndSettings) → get_elem? (pass_of seat.old).births at ≡ some set → end_moved event ≡ Some set.id }
+    ensures idle { IsIdle (table_in places.now) seat.new.token }
+    ensures turn { MoveTurns node at clock.old clock.new view.old view.new (S.device swap.old) (S.device swap.new) (pass_of seat.old) (pass_of seat.new) result }
     ensures cause { IsMadeFor result (S.count swap.old) (S.count swap.new) }
 {
     match places.try_enter_at(seat, at) {
@@ -132,15 +133,15 @@ pub fn driver_turn<S: Look>(
     view: &mut View,
     clock: &mut u64,
 ) -> Result<DriverTurn, DriverFault>
-    requires idle { IsIdle places.now.board.shared.table_id seat.old.token }
+    requires idle { IsIdle (table_in places.now) seat.old.token }
     requires count { places.now.count ≡ length view.old.ends }
-    requires can { CanDrive places.now.frames node view.old (S.device swap.old) seat.old.token.me.0 }
-    ensures idle { IsIdle places.now.board.shared.table_id seat.new.token }
-    ensures seat { SameSeat seat.old.token.me.0 seat.new.token.me.0 }
-    ensures can { CanDrive places.now.frames node view.new (S.device swap.new) seat.new.token.me.0 }
-    ensures turn { DriverTurns (length view.old.ends) node clock.old clock.new view.old view.new (S.device swap.old) (S.device swap.new) seat.old.token.me.0 seat.new.token.me.0 result }
+    requires can { CanDrive places.now.frames node view.old (S.device swap.old) (pass_of seat.old) }
+    ensures idle { IsIdle (table_in places.now) seat.new.token }
+    ensures seat { SameSeat (pass_of seat.old) (pass_of seat.new) }
+    ensures can { CanDrive places.now.frames node view.new (S.device swap.new) (pass_of seat.new) }
+    ensures turn { DriverTurns (length view.old.ends) node clock.old clock.new view.old view.new (S.device swap.old) (S.device swap.new) (pass_of seat.old) (pass_of seat.new) result }
     ensures cause { IsMadeFor result (S.count swap.old) (S.count swap.new) }
-    ensures works { (s : ScenarioLists) (ids : Ids) (made_in : ℕ) → IsDriverOf s ids node made_in → DriverWorks s ids node made_in clock.old view.old (S.device swap.old) seat.old.token.me.0 → DriverWorks s ids node (made_in + 1) clock.new view.new (S.device swap.new) seat.new.token.me.0 }
+    ensures works { (s : ScenarioLists) (ids : Ids) (made_in : ℕ) → IsDriverOf s ids node made_in → DriverWorks s ids node made_in clock.old view.old (S.device swap.old) (pass_of seat.old) → DriverWorks s ids node (made_in + 1) clock.new view.new (S.device swap.new) (pass_of seat.new) }
 {
     if let Err(busy) = look_at_each(places, seat, view) {
         return Ok(DriverTurn::Busy {

@@ -5,6 +5,7 @@ ghost use Rattle.am_workers_laws.specs.Invariants.Drives.{IsLook, LooksTo, with_
 ghost use Rattle.am_workers_laws.specs.Invariants.Seats.{IsBusy, IsIdle};
 ghost use Rattle.am_driver.specs.Turns.{MeetsSeat};
 ghost use Rattle.std.specs.Prelude.{◌≡◌, ◌<◌, IfErr, OnOk, length};
+ghost use Rattle.am_places.specs.Seats.{pass_of, table_in};
 
 use am_driver_moves::choice::{EndView, View};
 use am_endpoint::Endpoint;
@@ -47,15 +48,15 @@ fn look(
     view: &mut View,
     at: usize,
 ) -> Result<(), Busy>
-    requires idle { IsIdle places.now.board.shared.table_id seat.old.token }
+    requires idle { IsIdle (table_in places.now) seat.old.token }
     requires at { at < places.now.count }
     requires line { at < length view.old.ends }
-    requires driver { seat.old.token.me.0.mark ≡ seat.old.token.me.0.seats }
-    ensures idle { IsIdle places.now.board.shared.table_id seat.new.token }
-    ensures driver { seat.new.token.me.0.mark ≡ seat.new.token.me.0.seats }
+    requires driver { (pass_of seat.old).mark ≡ (pass_of seat.old).seats }
+    ensures idle { IsIdle (table_in places.now) seat.new.token }
+    ensures driver { (pass_of seat.new).mark ≡ (pass_of seat.new).seats }
     ensures lines { length view.new.ends ≡ length view.old.ends }
-    ensures looked { OnOk result (IsLook at view.old view.new seat.old.token.me.0 seat.new.token.me.0) }
-    ensures busy { IfErr result (λ b. IsBusy at b.holder seat.old.token.me.0 seat.new.token.me.0 × (view.new ≡ view.old)) }
+    ensures looked { OnOk result (IsLook at view.old view.new (pass_of seat.old) (pass_of seat.new)) }
+    ensures busy { IfErr result (λ b. IsBusy at b.holder (pass_of seat.old) (pass_of seat.new) × (view.new ≡ view.old)) }
 {
     match places.try_enter_at(seat, at) {
         Ok(entered) => {
@@ -73,12 +74,12 @@ pub(crate) fn look_at_each(
     seat: &mut Seat<EndBook>,
     view: &mut View,
 ) -> Result<(), Busy>
-    requires idle { IsIdle places.now.board.shared.table_id seat.old.token }
+    requires idle { IsIdle (table_in places.now) seat.old.token }
     requires count { places.now.count ≡ length view.old.ends }
-    requires driver { seat.old.token.me.0.mark ≡ seat.old.token.me.0.seats }
-    ensures idle { IsIdle places.now.board.shared.table_id seat.new.token }
-    ensures looked { OnOk result (LooksTo (length view.old.ends) view.old view.new seat.old.token.me.0 seat.new.token.me.0) }
-    ensures busy { IfErr result (λ b. MeetsSeat b.holder view.old view.new seat.old.token.me.0 seat.new.token.me.0) }
+    requires driver { (pass_of seat.old).mark ≡ (pass_of seat.old).seats }
+    ensures idle { IsIdle (table_in places.now) seat.new.token }
+    ensures looked { OnOk result (LooksTo (length view.old.ends) view.old view.new (pass_of seat.old) (pass_of seat.new)) }
+    ensures busy { IfErr result (λ b. MeetsSeat b.holder view.old view.new (pass_of seat.old) (pass_of seat.new)) }
 {
     for at in 0..places.count {
         look(places, seat, view, at)?;

@@ -1,5 +1,6 @@
 //! How the frames' claims follow a move.
 ghost use Rattle.am_places.specs.Rule.{IsIn};
+ghost use Rattle.am_places.specs.Seats.{SitsAt, StaysSeated, hand_of, me_of, pass_of};
 ghost use Rattle.am_workers_laws.specs.Invariants.Drives.{with_frames};
 ghost use Rattle.am_driver.specs.Turns.{CanSettle, SettlesAfter, frames_by, frames_of};
 ghost use Rattle.std.specs.Prelude.{◌≡◌, ◌<◌};
@@ -16,13 +17,13 @@ fn settle_by(
     entered: &mut Entered<EndBook>,
     event: Event,
 )
-    requires seat { seat.old.token.table_id ≡ places.now.board.shared.table_id }
-    requires driver { seat.old.token.me.0.mark ≡ seat.old.token.me.0.seats }
-    requires inside { (entered.old.at < places.now.count) × IsIn entered.old.at seat.old.token.me }
-    requires can { CanSettle entered.old.at event entered.old.frame places.now.frames seat.old.token.me.0.frames }
-    ensures seat { (seat.new.token.table_id ≡ seat.old.token.table_id) × (seat.new.mark ≡ seat.old.mark) }
+    requires seat { SitsAt places.now seat.old }
+    requires driver { (pass_of seat.old).mark ≡ (pass_of seat.old).seats }
+    requires inside { (entered.old.at < places.now.count) × IsIn entered.old.at (me_of seat.old) }
+    requires can { CanSettle entered.old.at event entered.old.frame places.now.frames (pass_of seat.old).frames }
+    ensures seat { StaysSeated seat.old seat.new }
     ensures book { (entered.new.at ≡ entered.old.at) × (entered.new.book ≡ entered.old.book) }
-    ensures frames { seat.new.token.me ≡ (with_frames (frames_by entered.old.at event entered.old.frame seat.old.token.me.0.frames) seat.old.token.me.0, seat.old.token.me.1) }
+    ensures frames { me_of seat.new ≡ (with_frames (frames_by entered.old.at event entered.old.frame (pass_of seat.old).frames) (pass_of seat.old), hand_of seat.old) }
 {
     match event {
         Event::Load { frame, .. } => match places.claim_frame(seat, entered, frame) {
@@ -41,13 +42,13 @@ pub(crate) fn settle(
     entered: &mut Entered<EndBook>,
     turn: &Result<DriverTurn, DriverFault>,
 )
-    requires seat { seat.old.token.table_id ≡ places.now.board.shared.table_id }
-    requires driver { seat.old.token.me.0.mark ≡ seat.old.token.me.0.seats }
-    requires inside { (entered.old.at < places.now.count) × IsIn entered.old.at seat.old.token.me }
-    requires can { SettlesAfter entered.old.at turn.now entered.old.frame places.now.frames seat.old.token.me.0.frames }
-    ensures seat { (seat.new.token.table_id ≡ seat.old.token.table_id) × (seat.new.mark ≡ seat.old.mark) }
+    requires seat { SitsAt places.now seat.old }
+    requires driver { (pass_of seat.old).mark ≡ (pass_of seat.old).seats }
+    requires inside { (entered.old.at < places.now.count) × IsIn entered.old.at (me_of seat.old) }
+    requires can { SettlesAfter entered.old.at turn.now entered.old.frame places.now.frames (pass_of seat.old).frames }
+    ensures seat { StaysSeated seat.old seat.new }
     ensures book { (entered.new.at ≡ entered.old.at) × (entered.new.book ≡ entered.old.book) }
-    ensures frames { seat.new.token.me ≡ (with_frames (frames_of entered.old.at turn.now entered.old.frame seat.old.token.me.0.frames) seat.old.token.me.0, seat.old.token.me.1) }
+    ensures frames { me_of seat.new ≡ (with_frames (frames_of entered.old.at turn.now entered.old.frame (pass_of seat.old).frames) (pass_of seat.old), hand_of seat.old) }
 {
     match turn {
         Ok(DriverTurn::Did(entry)) => settle_by(places, seat, entered, entry.event),

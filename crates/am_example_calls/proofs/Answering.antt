@@ -21,7 +21,7 @@ use Rattle.am_example_calls.specs.declared.answers.Answer.{Answer}
 use Rattle.am_example_calls.specs.declared.answers.Answer.TheVariants.{Heard, Unheard, NeverRan}
 use Rattle.am_example_calls.specs.Answers.{answer_at, is_heard, noted}
 use Rattle.am_example_calls.specs.Calls.{AreAnswered, GaveNoAnswer, IsAnswer, Ran, Refused, ReplyGone, RequestGone, Round, call_at}
-use Rattle.am_example_calls.specs.Rounds.{IsRoundOf, Serves, Tells, server}
+use Rattle.am_example_calls.specs.Rounds.{IsRoundOf, Serves, HasNoted, server}
 use Rattle.am_example_calls.proofs.Hearing.{Came, Gone, Known, Next, Still, length_noted, next}
 
 -- the laws that it rests on
@@ -152,7 +152,7 @@ planned_so arguments old plan s is = ap (λ (t : ScenarioLists). t.plan) is.plan
 
 -- a round more
 pub answered_more : (laws : Laws) (arguments : List ℕ) (plans : List (Vec PlanLine)) (count : ℕ) (d : Vec PlanLine) (old new : List Answer) (s : ScenarioLists) →
-    count < length plans → IsRoundOf arguments old (get_or plans count d).items s → Tells s old new → AreAnswered arguments (take count plans) old →
+    count < length plans → IsRoundOf arguments old (get_or plans count d).items s → HasNoted s old new → AreAnswered arguments (take count plans) old →
     AreAnswered arguments (take (count + 1) plans) new
 answered_more laws arguments plans count d old new s below is_round tells so_far =
     let plan : List PlanLine = (get_or plans count d).items in
@@ -178,7 +178,7 @@ answered_more laws arguments plans count d old new s below is_round tells so_far
 -- so where the answers are written back behind a slice
 pub round_added : (laws : Laws) (arguments : List ℕ) (plans : List (Vec PlanLine)) (count : ℕ) (plan : Vec PlanLine) (len : ℕ)
     (items d m new : List Answer) (p : List PlanLine) (s : ScenarioLists) → count < length plans → plan ≡ get_or plans count plan → length items ≡ len →
-    d ≡ items → p ≡ plan.items → m ≡ items → IsRoundOf arguments d p s → Tells s m new → AreAnswered arguments (take count plans) items →
+    d ≡ items → p ≡ plan.items → m ≡ items → IsRoundOf arguments d p s → HasNoted s m new → AreAnswered arguments (take count plans) items →
     AreAnswered arguments (take (count + 1) plans) (take len (new ++ drop (length new) items))
 round_added laws arguments plans count plan len items d m new p s below at many same_d same_p same_m is_round tells so_far =
     let long : length new ≡ len =
@@ -189,7 +189,7 @@ round_added laws arguments plans count plan len items d m new p s below at many 
     (answered_more laws arguments plans count plan items new s below
     (subst (λ (l : List PlanLine). IsRoundOf arguments items l s) (same_p ∙ ap (λ (v : Vec PlanLine). v.items) at)
     (subst (λ (l : List Answer). IsRoundOf arguments l p s) same_d is_round))
-    (subst (λ (l : List Answer). Tells s l new) same_m tells) so_far)
+    (subst (λ (l : List Answer). HasNoted s l new) same_m tells) so_far)
 
 -- before the first round
 pub none_answered : (arguments : List ℕ) (answers : List Answer) → answers ≡ replicate (length arguments) NeverRan → AreAnswered arguments [] answers

@@ -60,7 +60,7 @@ pub record IsRoundOf (arguments : List ℕ) (answers : List Answer) (plan : List
   pub planned' : s ≡ planned draft plan
 
 -- a run of the scenario was made, and what ran at the server was noted
-pub record Tells (s : ScenarioLists) (old new : List Answer) : Type 0 where
+pub record HasNoted (s : ScenarioLists) (old new : List Answer) : Type 0 where
   pub journal : List Entry
   pub run : IsRun s journal
   pub noted' : new ≡ fold (noted journal) old (runs_at journal server)

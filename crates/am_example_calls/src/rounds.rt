@@ -6,7 +6,7 @@ ghost use Rattle.am_scenario_types.specs.Lawful.{IsLawful};
 ghost use Rattle.am_scenario_types.specs.declared.parts.Network.TheVariants.{Packet};
 ghost use Rattle.am_example_calls.specs.declared.answers.Answer.TheVariants.{NeverRan};
 ghost use Rattle.am_example_calls.specs.Calls.{AreAnswered, call_of};
-ghost use Rattle.am_example_calls.specs.Rounds.{Asks, AsksFor, IsRoundOf, IsSetUp, Tells, open_call, planned};
+ghost use Rattle.am_example_calls.specs.Rounds.{Asks, AsksFor, IsRoundOf, IsSetUp, HasNoted, open_call, planned};
 
 use crate::answers::{Answer, hear};
 use am_library::laws::{
@@ -143,7 +143,7 @@ fn run_round<R: Runner, T: Threads + Sync>(
     requires shared { IsSync T.row }
     requires lawful { IsLawful scenario.now }
     requires packet { scenario.now.network ≡ Packet }
-    ensures { OnOk result (Tells scenario.now answers.old answers.new) }
+    ensures { OnOk result (HasNoted scenario.now answers.old answers.new) }
 {
     let finished = runner.run(rt, alloc, scenario)?;
     let journal = finished.journal.logged(alloc)?;

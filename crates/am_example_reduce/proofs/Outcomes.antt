@@ -28,7 +28,7 @@ use Rattle.am_library.specs.Runs.{IsRun}
 use Rattle.am_library.specs.Views.{is_to, requests_run, requests_sent, runs_at, sum_at}
 use Rattle.am_library.proofs.Weights.{sum_map}
 use Rattle.am_example_reduce.specs.declared.reduce.Summed.{Summed}
-use Rattle.am_example_reduce.specs.Rounds.{Asks, Tells, end_of, root, serves_root}
+use Rattle.am_example_reduce.specs.Rounds.{Asks, SendsSum, end_of, root, serves_root}
 use Rattle.am_example_reduce.specs.Sums.{AreNotes, IsOutcome, Run, Sums, SumsAllBut, heard_by, weight_at_root, weight_summed}
 use Rattle.am_example_reduce.proofs.Lists.{filter_all, filter_in, filter_none}
 
@@ -142,7 +142,7 @@ is_whole plan numbers summed sums none_left none_unknown =
 -- ---- what the nodes hear
 
 pub are_notes : (plan : List PlanLine) (nodes sum : ℕ) (s : ScenarioLists) (journal : List Entry) (notes : List (Option ℕ)) → WhatRanWasAskedFor →
-    IsRun s journal → Tells plan sum s → notes ≡ map (heard_by journal) (range_with_len 0 nodes) → AreNotes plan nodes sum notes
+    IsRun s journal → SendsSum plan sum s → notes ≡ map (heard_by journal) (range_with_len 0 nodes) → AreNotes plan nodes sum notes
 are_notes plan nodes sum s journal notes asked is_run tells heard = record {
   run = record { scenario = s; journal = journal; planned = tells.plan'; is_run = is_run };
   heard = heard;

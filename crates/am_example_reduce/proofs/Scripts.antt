@@ -18,7 +18,7 @@ use Rattle.am_scenario_types.specs.Lists.{ScenarioLists}
 use Rattle.am_library.specs.Drafts.{made, with_call}
 use Rattle.am_library.specs.Ends.{words_asked, words_in}
 use Rattle.am_library.specs.Laws.{is_adding, leaves_adding}
-use Rattle.am_example_reduce.specs.Rounds.{Asks, Tells, end_of, root, serves_root}
+use Rattle.am_example_reduce.specs.Rounds.{Asks, SendsSum, end_of, root, serves_root}
 
 words_push : (s : ScenarioLists) (c : ScriptCall) → words_asked (s.script ++ c ∷ []) ≡ words_asked s.script ++ cons_option (words_in c.call) []
 words_push s c = filter_map-append (λ (d : ScriptCall). words_in d.call) s.script (c ∷ [])
@@ -76,7 +76,7 @@ asks_sent plan numbers node tag words s t u v w map' request poll polled asks =
 
 -- ---- a round that tells
 
-tells_same : (plan : List PlanLine) (sum : ℕ) (s : ScenarioLists) (c : ScriptCall) → words_in c.call ≡ None → Tells plan sum s → Tells plan sum (with_call s c)
+tells_same : (plan : List PlanLine) (sum : ℕ) (s : ScenarioLists) (c : ScriptCall) → words_in c.call ≡ None → SendsSum plan sum s → SendsSum plan sum (with_call s c)
 tells_same plan sum s c none tells = record {
   plan' = tells.plan';
   told = subst (λ (words : List Words). All (λ (w : Words). w.a ≡ sum) words)
@@ -84,7 +84,7 @@ tells_same plan sum s c none tells = record {
 }
 
 tells_more : (plan : List PlanLine) (sum : ℕ) (s : ScenarioLists) (c : ScriptCall) (words : Words) → words_in c.call ≡ Some words → words.a ≡ sum →
-    Tells plan sum s → Tells plan sum (with_call s c)
+    SendsSum plan sum s → SendsSum plan sum (with_call s c)
 tells_more plan sum s c words is same tells = record {
   plan' = tells.plan';
   told = subst (λ (ws : List Words). All (λ (w : Words). w.a ≡ sum) ws)
@@ -92,7 +92,7 @@ tells_more plan sum s c words is same tells = record {
       (All-push (λ (w : Words). w.a ≡ sum) (words_asked s.script) words tells.told same);
 }
 
-pub tells_begin : (plan : List PlanLine) (sum : ℕ) (s : ScenarioLists) → s.script ≡ [] → s.plan ≡ plan → Tells plan sum s
+pub tells_begin : (plan : List PlanLine) (sum : ℕ) (s : ScenarioLists) → s.script ≡ [] → s.plan ≡ plan → SendsSum plan sum s
 tells_begin plan sum s script planned = record {
   plan' = planned;
   told = subst (λ (calls : List ScriptCall). All (λ (w : Words). w.a ≡ sum) (words_asked calls)) (sym script) (All-nil (λ (w : Words). w.a ≡ sum));
@@ -100,9 +100,9 @@ tells_begin plan sum s script planned = record {
 
 pub tells_noted : (plan : List PlanLine) (sum node : ℕ) (tag : Tag) (words : Words) (s t u v w : ScenarioLists) → words.a ≡ sum →
     t ≡ with_call s (made node (end_of node) (Calls.SetHandler 1 Note)) → u ≡ with_call t (made 0 root (Calls.Map node (end_of node) tag 1)) →
-    v ≡ with_call u (made 0 root (Calls.Request node 1 words)) → w ≡ with_call v (made node (end_of node) Calls.Poll) → Tells plan sum s → Tells plan sum w
+    v ≡ with_call u (made 0 root (Calls.Request node 1 words)) → w ≡ with_call v (made node (end_of node) Calls.Poll) → SendsSum plan sum s → SendsSum plan sum w
 tells_noted plan sum node tag words s t u v w is set map' request poll tells =
-    subst (Tells plan sum) (sym poll) (tells_same plan sum v (made node (end_of node) Calls.Poll) refl
-    (subst (Tells plan sum) (sym request) (tells_more plan sum u (made 0 root (Calls.Request node 1 words)) words refl is
-    (subst (Tells plan sum) (sym map') (tells_same plan sum t (made 0 root (Calls.Map node (end_of node) tag 1)) refl
-    (subst (Tells plan sum) (sym set) (tells_same plan sum s (made node (end_of node) (Calls.SetHandler 1 Note)) refl tells)))))))
+    subst (SendsSum plan sum) (sym poll) (tells_same plan sum v (made node (end_of node) Calls.Poll) refl
+    (subst (SendsSum plan sum) (sym request) (tells_more plan sum u (made 0 root (Calls.Request node 1 words)) words refl is
+    (subst (SendsSum plan sum) (sym map') (tells_same plan sum t (made 0 root (Calls.Map node (end_of node) tag 1)) refl
+    (subst (SendsSum plan sum) (sym set) (tells_same plan sum s (made node (end_of node) (Calls.SetHandler 1 Note)) refl tells)))))))

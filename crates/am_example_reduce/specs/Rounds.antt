@@ -28,6 +28,6 @@ pub record Asks (plan : List PlanLine) (numbers : List Words) (s : ScenarioLists
   pub alone : list_all serves_root s.script ≡ true
 
 -- Under this plan each request that is asked for has the sum as its first word.
-pub record Tells (plan : List PlanLine) (sum : ℕ) (s : ScenarioLists) : Type 0 where
+pub record SendsSum (plan : List PlanLine) (sum : ℕ) (s : ScenarioLists) : Type 0 where
   pub plan' : s.plan ≡ plan
   pub told : All (λ (words : Words). words.a ≡ sum) (words_asked s.script)

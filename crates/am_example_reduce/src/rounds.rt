@@ -5,7 +5,7 @@ ghost use Rattle.am_names.specs.declared.Words.{Words};
 ghost use Rattle.am_scenario_plan.specs.declared.plan.PlanLine.{PlanLine};
 ghost use Rattle.am_scenario_types.specs.Lawful.{IsLawful};
 ghost use Rattle.am_scenario_types.specs.declared.parts.Network.TheVariants.{Packet};
-ghost use Rattle.am_example_reduce.specs.Rounds.{Asks, Tells};
+ghost use Rattle.am_example_reduce.specs.Rounds.{Asks, SendsSum};
 
 use am_library::{Draft, DraftFault, Setting};
 use am_names::{EndpointId, NodeId, Tag, Words};
@@ -80,7 +80,7 @@ pub fn ask(
 // The root sends the sum to a node.
 fn note(draft: &mut Draft, node: u8, sum: u64) -> Result<(), DraftFault>
     requires { node < 255 }
-    ensures { (plan : List PlanLine) → Tells plan sum draft.old → OnOk result (Tells plan sum draft.new) }
+    ensures { (plan : List PlanLine) → SendsSum plan sum draft.old → OnOk result (SendsSum plan sum draft.new) }
 {
     let end = EndpointId(node + 1);
     draft.handler(node, end, 1, HandlerKind::Note)?;
@@ -105,7 +105,7 @@ fn note(draft: &mut Draft, node: u8, sum: u64) -> Result<(), DraftFault>
 pub fn tell(alloc: Global, nodes: u8, plan: &[PlanLine], sum: u64) -> Result<Scenario, DraftFault>
     ensures lawful { IfOk result IsLawful }
     ensures packet { IfOk result (λ scenario. scenario.network ≡ Packet) }
-    ensures tells { IfOk result (λ scenario. Tells plan.now sum scenario) }
+    ensures tells { IfOk result (λ scenario. SendsSum plan.now sum scenario) }
 {
     let mut draft = planned(alloc, nodes, plan)?;
     for node in 0..nodes {

@@ -3,6 +3,7 @@
 #![tactic(auto)]
 
 ghost use Rattle.std.specs.Prelude.{◌≡◌, IfOk};
+ghost use Rattle.am_places.specs.Seats.{pass_of, table_in};
 ghost use Rattle.am_places_stays.specs.Stays.{IsMerge};
 ghost use Rattle.am_example_tally.specs.Lines.{IsFresh};
 
@@ -19,9 +20,9 @@ use std::thread::{Threads, join};
 /// An empty list, and a seat for each of two threads.
 fn begin(alloc: Global) -> Result<(Places<Tally>, Seat<Tally>, Seat<Tally>), NoMemory>
     ensures one { IfOk result (λ r. r.0.count ≡ 1) }
-    ensures first { IfOk result (λ r. IsFresh r.0.board.shared.table_id r.1.token) }
-    ensures second { IfOk result (λ r. IsFresh r.0.board.shared.table_id r.2.token) }
-    ensures marks { IfOk result (λ r. (r.1.token.me.0.mark ≡ 1) × (r.2.token.me.0.mark ≡ 2) × (r.2.token.me.0.seats ≡ 2)) }
+    ensures first { IfOk result (λ r. IsFresh (table_in r.0) r.1.token) }
+    ensures second { IfOk result (λ r. IsFresh (table_in r.0) r.2.token) }
+    ensures marks { IfOk result (λ r. ((pass_of r.1).mark ≡ 1) × ((pass_of r.2).mark ≡ 2) × ((pass_of r.2).seats ≡ 2)) }
 {
     let books = vec![in alloc; Tally::new(alloc)]?;
     let ids = vec![in alloc; EndpointId(0)]?;

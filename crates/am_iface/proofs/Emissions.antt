@@ -24,7 +24,7 @@ use Rattle.am_channel.specs.declared.sending.Bound.{Bound}
 use Rattle.am_channel.specs.declared.sending.TimedOut.{TimedOut}
 use Rattle.am_channel.specs.declared.sending.TimedOut.TheVariants as Times
 use Rattle.am_channel.specs.Sending.{timed_out, settled}
-use Rattle.am_channel.specs.Calls.{Call, Bind, TimeOut, Answer, Arrive, Tells, TellsTimedOut, TellsTimeOut, settled_as, arrived_as}
+use Rattle.am_channel.specs.Calls.{Call, Bind, TimeOut, Answer, Arrive, TellsCall, TellsTimedOut, TellsTimeOut, settled_as, arrived_as}
 use Rattle.am_channel.proofs.Pushes.{entry_is}
 use Rattle.am_model_parts.proofs.Growing.{on_link}
 
@@ -76,7 +76,7 @@ expiry_goes c tries seq None x tells = absurd tells
 expiry_goes c tries seq (Some b) x tells = time_out_goes c b (timed_out tries seq b) x tells
 
 -- what tells of a call on a channel emits to its peer alone
-call_goes : (c : Channel) (e : Ends) (call : Call) (x : Entry) → Tells c e call x → Goes c.node c.peer (emitted_of x)
+call_goes : (c : Channel) (e : Ends) (call : Call) (x : Entry) → TellsCall c e call x → Goes c.node c.peer (emitted_of x)
 call_goes c e (Bind m slot) x tells =
     at c x (Events.Bind c.node tells.end) (Out.Sent m c.peer c.number (e.sending.seq + 1) 0 tells.number) tells.event tells.outcome (λ stamp. (refl, refl))
 call_goes c e (TimeOut tries) x tells = expiry_goes c tries e.sending.seq e.sending.bound x tells
@@ -111,7 +111,7 @@ goes_on node peer to (Some (Packets.Answer p)) goes = on (same_node to peer) (λ
         by_test true = refl
         by_test false = refl
 
-pub call_emits : (c : Channel) (log : List Entry) (e : Ends) (call : Call) (x : Entry) (to : NodeId) → Tells c e call x →
+pub call_emits : (c : Channel) (log : List Entry) (e : Ends) (call : Call) (x : Entry) (to : NodeId) → TellsCall c e call x →
     length (emitted c.node to (log ++ x ∷ [])) ≡ length (emitted c.node to log) + bit (is_some (emitted_of x) && same_node to c.peer)
 call_emits c log e call x to tells =
     ap (λ (ps : List Packet). length ps) (emitted_push c.node to log x)

@@ -30,7 +30,7 @@ use Rattle.am_channel.specs.declared.sending.Settled.TheVariants as Settles
 use Rattle.am_channel.specs.declared.sending.TimedOut.{TimedOut}
 use Rattle.am_channel.specs.declared.sending.TimedOut.TheVariants as Times
 use Rattle.am_channel.specs.Sending.{bound_after, settled, settled_by, settled_if, timed_out}
-use Rattle.am_channel.specs.Calls.{Arrive, Answer, Bind, TimeOut, Tells, TellsTimedOut, TellsTimeOut, after, arrived_as, settled_as, mark_later}
+use Rattle.am_channel.specs.Calls.{Arrive, Answer, Bind, TimeOut, TellsCall, TellsTimedOut, TellsTimeOut, after, arrived_as, settled_as, mark_later}
 use Rattle.am_channel.specs.Counted.{AreCounted}
 use Rattle.am_model_parts.specs.declared.work.Work.TheVariants as Works
 use Rattle.am_model_parts.specs.Interface.{InterfaceLog, channel_in, arrive_at, expire_at, failing_at, has_try_left, needs, needs_arrival, needs_bound}
@@ -54,7 +54,7 @@ arrived_is s m answer Fresh = refl
 -- a parcel's entry tells of an arrival
 pub parcel_tells : (c : Channel) (s : State) (p : Parcel) (e : Ends) (answer : ℕ) (x : Entry) → c ≡ channel_to c.node p.from p.channel →
     x.event ≡ Events.Receive c.node p.from p.number → x.outcome ≡ Out.Received p.channel p.seq p.attempt
-    (arrive_at s p.message answer (arrival e.receiving p.seq p.attempt)) → Tells c e (Arrive p (verdict s p.message)) x
+    (arrive_at s p.message answer (arrival e.receiving p.seq p.attempt)) → TellsCall c e (Arrive p (verdict s p.message)) x
 parcel_tells c s p e answer x on event outcome =
     record {
       number = p.number;

@@ -3,7 +3,7 @@ use Rattle.std.specs.Prelude.{◌≡◌, List}
 use Rattle.am_office_entries.specs.declared.Entry.{Entry}
 use Rattle.am_model.specs.Channels.{Channel}
 use Rattle.am_channel.specs.declared.ends.Ends.{Ends}
-use Rattle.am_channel.specs.Calls.{Call, Tells, after}
+use Rattle.am_channel.specs.Calls.{Call, TellsCall, after}
 use Rattle.am_channel.specs.Counted.{AreCounted}
 
 -- the entry tells of a call on the ends that are counted in the log, and the call leaves the new ends
@@ -11,5 +11,5 @@ pub record IsMade (c : Channel) (log : List Entry) (new : Ends) (x : Entry) : Ty
   pub old : Ends
   pub counted : AreCounted c log old
   pub call : Call
-  pub tells : Tells c old call x
+  pub tells : TellsCall c old call x
   pub leaves : new ≡ after old call

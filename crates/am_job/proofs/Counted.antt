@@ -19,7 +19,7 @@ use Rattle.am_office_entries.specs.declared.Part.{Part}
 use Rattle.am_scenario_types.specs.Lists.{ScenarioLists}
 use Rattle.am_job.specs.declared.words.codes.CodedWord.{CodedWord}
 use Rattle.am_job.specs.Words.Codes.{coded, sent_words}
-use Rattle.am_job.specs.Words.Counts.{Counted, IsCountOf, Tells, rows_of, same_word, see_journal, times, words_run}
+use Rattle.am_job.specs.Words.Counts.{Counted, IsCountOf, IsTallyOf, rows_of, same_word, see_journal, times, words_run}
 use Rattle.am_job.specs.Words.Lists.{WordCountLists}
 use Rattle.am_job.specs.Words.Texts.{is_long, is_short, long_count, short_words, words_of}
 use Rattle.am_job.proofs.Tallied.{same_is, tells_journal, tells_nothing}
@@ -80,7 +80,7 @@ counts_more is_run w turns sent n round old new adds is counted' so_far =
     let asks : asked_in_all rounds ++ words_asked here.script ≡ asked_in_all (map (round_at w turns sent) (range_with_len 0 (n + 1))) =
     sym (asked_more rounds here) ∙ ap (λ (l : List ScenarioLists). asked_in_all l) (sym next) in
     let runs : run_in_all so_far.journals ++ words_run counted.journal ≡ run_in_all journals = sym (listed_more words_run so_far.journals counted.journal) in
-    let told : Tells (see_journal (ask_script old here.script) counted.journal) (asked_in_all rounds ++ words_asked here.script)
+    let told : IsTallyOf (see_journal (ask_script old here.script) counted.journal) (asked_in_all rounds ++ words_asked here.script)
     (run_in_all so_far.journals ++ words_run counted.journal) =
     tells_journal counted.journal (ask_script old here.script) (asked_in_all rounds ++ words_asked here.script) (run_in_all so_far.journals)
     (tells_script here.script old (asked_in_all rounds) (run_in_all so_far.journals) so_far.tells) in
@@ -88,9 +88,9 @@ counts_more is_run w turns sent n round old new adds is counted' so_far =
       journals = journals;
       rounds = subst (λ (l : List ScenarioLists). AllZip (IsRound is_run) l journals) (sym next)
           (all_zipped_more (IsRound is_run) rounds so_far.journals here counted.journal so_far.rounds (record { run = counted.run; adds_up = adds_up }));
-      tells = subst (λ (c : Counted). Tells c (asked_in_all (map (round_at w turns sent) (range_with_len 0 (n + 1)))) (run_in_all journals)) (sym counted.is)
-          (subst (λ (l : List (List ℕ)). Tells (see_journal (ask_script old here.script) counted.journal) l (run_in_all journals)) asks
-          (subst (λ (l : List (List ℕ)). Tells (see_journal (ask_script old here.script) counted.journal) (asked_in_all rounds ++ words_asked here.script) l)
+      tells = subst (λ (c : Counted). IsTallyOf c (asked_in_all (map (round_at w turns sent) (range_with_len 0 (n + 1)))) (run_in_all journals)) (sym counted.is)
+          (subst (λ (l : List (List ℕ)). IsTallyOf (see_journal (ask_script old here.script) counted.journal) l (run_in_all journals)) asks
+          (subst (λ (l : List (List ℕ)). IsTallyOf (see_journal (ask_script old here.script) counted.journal) (asked_in_all rounds ++ words_asked here.script) l)
           runs told));
       ends = subst (λ (l : List (List ℕ)). EndIn l journals) asks (ends_more (asked_in_all rounds) (words_asked here.script) so_far.journals counted.journal
           adds_up so_far.ends);
@@ -193,8 +193,8 @@ text_counted is_run w turns text sent counted rows all long printed some nodes i
     let counts : CountsAll is_run w turns (sent_words text) (round_count w (length (sent_words text))) counted =
     subst (λ (l : List CodedWord). CountsAll is_run w turns l (round_count w (length l)) counted) sent_is counts' in
     let sends : asked_in_all (rounds_of w turns (sent_words text)) ≡ short_words text = rounds_send w turns text some nodes is in
-    let tells : Tells counted (short_words text) (run_in_all counts.journals) =
-    subst (λ (l : List (List ℕ)). Tells counted l (run_in_all counts.journals)) sends counts.tells in
+    let tells : IsTallyOf counted (short_words text) (run_in_all counts.journals) =
+    subst (λ (l : List (List ℕ)). IsTallyOf counted l (run_in_all counts.journals)) sends counts.tells in
     let ends : EndIn (short_words text) counts.journals = subst (λ (l : List (List ℕ)). EndIn l counts.journals) sends counts.ends in
     let few : (word : List ℕ) → times (run_in_all counts.journals) word ≤ times (short_words text) word = λ (word : List ℕ). omega (arith, ends word) in
     let counted_is : IsCountOf (short_words text) (run_in_all counts.journals) (rows_of counted) =

@@ -21,7 +21,7 @@ use Rattle.am_scenario_types.specs.declared.parts.ScriptCall.{ScriptCall}
 use Rattle.am_scenario_types.specs.Lists.{ScenarioLists}
 use Rattle.am_job.specs.declared.words.codes.CodedWord.{CodedWord}
 use Rattle.am_job.specs.Words.Codes.{coded, sent_words}
-use Rattle.am_job.specs.Words.Counts.{Counted, IsCountOf, Tells, ask, rows_of, same_word, see_journal, times, word_asked, words_run}
+use Rattle.am_job.specs.Words.Counts.{Counted, IsCountOf, IsTallyOf, ask, rows_of, same_word, see_journal, times, word_asked, words_run}
 use Rattle.am_job.specs.Words.Lists.{WordCountLists}
 use Rattle.am_job.specs.Words.Texts.{closed, is_gap, is_short, short_words, words_after, words_of}
 use Rattle.am_job.proofs.Carried.{IsWord, code_carries}
@@ -230,12 +230,12 @@ few_times job is word =
 
 -- ---- a script more
 
-pub tells_script : (script : List ScriptCall) (counted : Counted) (asked ran : List (List ℕ)) → Tells counted asked ran →
-    Tells (ask_script counted script) (asked ++ words_asked script) ran
-tells_script [] counted asked ran tells = subst (λ (words : List (List ℕ)). Tells counted words ran) (sym (append-nil asked)) tells
+pub tells_script : (script : List ScriptCall) (counted : Counted) (asked ran : List (List ℕ)) → IsTallyOf counted asked ran →
+    IsTallyOf (ask_script counted script) (asked ++ words_asked script) ran
+tells_script [] counted asked ran tells = subst (λ (words : List (List ℕ)). IsTallyOf counted words ran) (sym (append-nil asked)) tells
 tells_script (made ∷ script) counted asked ran tells =
     let word : Option (List ℕ) = word_asked made.call in
-    subst (λ (words : List (List ℕ)). Tells (ask_script (ask counted word) script) words ran)
+    subst (λ (words : List (List ℕ)). IsTallyOf (ask_script (ask counted word) script) words ran)
     (grown asked (option_to_list word) (words_asked script) (words_asked (made ∷ script))
     (listed (λ (made : ScriptCall). word_asked made.call) made script word refl))
     (tells_script script (ask counted word) (asked ++ option_to_list word) ran (tells_ask counted asked ran word tells))
@@ -243,14 +243,14 @@ tells_script (made ∷ script) counted asked ran tells =
 -- ---- the counts of a job
 
 pub ask_round : (rounds : List ScenarioLists) (i : ℕ) (round : ScenarioLists) (old new : Counted) → i < length rounds → round ≡ get_or rounds i round →
-    new ≡ ask_script old round.script → Tells old (asked_in_all (take i rounds)) [] → Tells new (asked_in_all (take (i + 1) rounds)) []
+    new ≡ ask_script old round.script → IsTallyOf old (asked_in_all (take i rounds)) [] → IsTallyOf new (asked_in_all (take (i + 1) rounds)) []
 ask_round rounds i round old new below at is tells =
     let next : asked_in_all (take i rounds) ++ words_asked round.script ≡ asked_in_all (take (i + 1) rounds) =
     sym (asked_more (take i rounds) round)
     ∙ ap (λ (r : ScenarioLists). asked_in_all (take i rounds ++ r ∷ [])) at
     ∙ ap (λ (l : List ScenarioLists). asked_in_all l) (sym (take_more rounds i round below)) in
-    subst (λ (counted : Counted). Tells counted (asked_in_all (take (i + 1) rounds)) []) (sym is)
-    (subst (λ (words : List (List ℕ)). Tells (ask_script old round.script) words []) next
+    subst (λ (counted : Counted). IsTallyOf counted (asked_in_all (take (i + 1) rounds)) []) (sym is)
+    (subst (λ (words : List (List ℕ)). IsTallyOf (ask_script old round.script) words []) next
     (tells_script round.script old (asked_in_all (take i rounds)) [] tells))
 
 ran_more : (journals : List (List Entry)) (journal : List Entry) → run_in_all (journals ++ journal ∷ []) ≡ run_in_all journals ++ words_run journal
@@ -258,26 +258,26 @@ ran_more journals journal = flat_map-append words_run journals (journal ∷ [])
     ∙ ap (λ (l : List (List ℕ)). run_in_all journals ++ l) (append-nil (words_run journal))
 
 pub see_round : (asked : List (List ℕ)) (journals : List (List Entry)) (i : ℕ) (journal : List Entry) (old new : Counted) → i < length journals →
-    journal ≡ get_or journals i journal → new ≡ see_journal old journal → Tells old asked (run_in_all (take i journals)) →
-    Tells new asked (run_in_all (take (i + 1) journals))
+    journal ≡ get_or journals i journal → new ≡ see_journal old journal → IsTallyOf old asked (run_in_all (take i journals)) →
+    IsTallyOf new asked (run_in_all (take (i + 1) journals))
 see_round asked journals i journal old new below at is tells =
     let next : run_in_all (take i journals) ++ words_run journal ≡ run_in_all (take (i + 1) journals) =
     sym (ran_more (take i journals) journal)
     ∙ ap (λ (j : List Entry). run_in_all (take i journals ++ j ∷ [])) at
     ∙ ap (λ (l : List (List Entry)). run_in_all l) (sym (take_more journals i journal below)) in
-    subst (λ (counted : Counted). Tells counted asked (run_in_all (take (i + 1) journals))) (sym is)
-    (subst (λ (words : List (List ℕ)). Tells (see_journal old journal) asked words) next (tells_journal journal old asked (run_in_all (take i journals)) tells))
+    subst (λ (counted : Counted). IsTallyOf counted asked (run_in_all (take (i + 1) journals))) (sym is)
+    (subst (λ (words : List (List ℕ)). IsTallyOf (see_journal old journal) asked words) next (tells_journal journal old asked (run_in_all (take i journals)) tells))
 
-pub all_asked : (rounds : List ScenarioLists) (i : ℕ) (counted : Counted) → length rounds ≤ i → Tells counted (asked_in_all (take i rounds)) [] →
-    Tells counted (asked_in_all rounds) []
-all_asked rounds i counted past tells = subst (λ (l : List ScenarioLists). Tells counted (asked_in_all l) []) (take_all i rounds past) tells
+pub all_asked : (rounds : List ScenarioLists) (i : ℕ) (counted : Counted) → length rounds ≤ i → IsTallyOf counted (asked_in_all (take i rounds)) [] →
+    IsTallyOf counted (asked_in_all rounds) []
+all_asked rounds i counted past tells = subst (λ (l : List ScenarioLists). IsTallyOf counted (asked_in_all l) []) (take_all i rounds past) tells
 
 pub all_seen : (asked : List (List ℕ)) (journals : List (List Entry)) (i : ℕ) (counted : Counted) → length journals ≤ i →
-    Tells counted asked (run_in_all (take i journals)) → Tells counted asked (run_in_all journals)
-all_seen asked journals i counted past tells = subst (λ (l : List (List Entry)). Tells counted asked (run_in_all l)) (take_all i journals past) tells
+    IsTallyOf counted asked (run_in_all (take i journals)) → IsTallyOf counted asked (run_in_all journals)
+all_seen asked journals i counted past tells = subst (λ (l : List (List Entry)). IsTallyOf counted asked (run_in_all l)) (take_all i journals past) tells
 
 pub counts_are : (job : JobLists) (journals : List (List Entry)) (counted : Counted) (rows : List WordCountLists) → IsJob job →
-    ((word : List ℕ) → times (run_in_all journals) word ≤ times (asked_by job) word) → Tells counted (asked_by job) (run_in_all journals)
+    ((word : List ℕ) → times (run_in_all journals) word ≤ times (asked_by job) word) → IsTallyOf counted (asked_by job) (run_in_all journals)
     → IsStrictlySortedBy (slice_cmp nat_cmp) (keys_of counted) → rows ≡ rows_of counted → IsCountOf (asked_by job) (run_in_all journals) rows
 counts_are job journals counted rows is few told sorted rows_are =
     subst (λ (l : List WordCountLists). IsCountOf (asked_by job) (run_in_all journals) l) (sym rows_are)

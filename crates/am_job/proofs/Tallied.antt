@@ -12,7 +12,7 @@ use Rattle.std.proofs.lemmas.List.Sums.{sum_by_push}
 use Rattle.std.proofs.lemmas.Map.Lookups.{exact_bytes}
 use Rattle.am_office_entries.specs.declared.Entry.{Entry}
 use Rattle.am_job.specs.declared.words.tally.Count.{Count}
-use Rattle.am_job.specs.Words.Counts.{Counted, Tells, ask, capped, count_at, one_asked, one_ran, same_word, see, see_journal, times, with_count, word_run}
+use Rattle.am_job.specs.Words.Counts.{Counted, IsTallyOf, ask, capped, count_at, one_asked, one_ran, same_word, see, see_journal, times, with_count, word_run}
 use Rattle.am_job.specs.Words.Counts.{words_run}
 
 -- ---- the order of words
@@ -121,8 +121,8 @@ ran_cases true here there a r r' is that more =
     ap (λ (c : Count). one_ran c) (is refl) ∙ ap (λ (n : ℕ). pair (capped a) n) (capped_more r ∙ ap (λ (n : ℕ). capped n) (sym more))
 ran_cases false here there a r r' is that more = let same : r' ≡ r = omega (arith, more) in that ∙ ap (λ (n : ℕ). pair (capped a) (capped n)) (sym same)
 
-pub tells_ask : (counted : Counted) (asked ran : List (List ℕ)) (o : Option (List ℕ)) → Tells counted asked ran →
-    Tells (ask counted o) (asked ++ option_to_list o) ran
+pub tells_ask : (counted : Counted) (asked ran : List (List ℕ)) (o : Option (List ℕ)) → IsTallyOf counted asked ran →
+    IsTallyOf (ask counted o) (asked ++ option_to_list o) ran
 unfolding ask
 tells_ask counted asked ran None tells = record {
   each = λ (q : List ℕ). tells.each q
@@ -136,8 +136,8 @@ tells_ask counted asked ran (Some word) tells = record {
       (tells.each q) (one_more asked word q);
 }
 
-tells_see : (counted : Counted) (asked ran : List (List ℕ)) (o : Option (List ℕ)) → Tells counted asked ran →
-    Tells (see counted o) asked (ran ++ option_to_list o)
+tells_see : (counted : Counted) (asked ran : List (List ℕ)) (o : Option (List ℕ)) → IsTallyOf counted asked ran →
+    IsTallyOf (see counted o) asked (ran ++ option_to_list o)
 unfolding see
 tells_see counted asked ran None tells = record {
   each = λ (q : List ℕ). tells.each q
@@ -158,16 +158,16 @@ listed h x xs (Some y) e = rw e refl
 pub grown : (all front rest whole : List (List ℕ)) → whole ≡ front ++ rest → (all ++ front) ++ rest ≡ all ++ whole
 grown all front rest whole e = append_assoc all front rest ∙ ap (λ (l : List (List ℕ)). all ++ l) (sym e)
 
-pub tells_journal : (journal : List Entry) (counted : Counted) (asked ran : List (List ℕ)) → Tells counted asked ran →
-    Tells (see_journal counted journal) asked (ran ++ words_run journal)
-tells_journal [] counted asked ran tells = subst (λ (words : List (List ℕ)). Tells counted asked words) (sym (append-nil ran)) tells
+pub tells_journal : (journal : List Entry) (counted : Counted) (asked ran : List (List ℕ)) → IsTallyOf counted asked ran →
+    IsTallyOf (see_journal counted journal) asked (ran ++ words_run journal)
+tells_journal [] counted asked ran tells = subst (λ (words : List (List ℕ)). IsTallyOf counted asked words) (sym (append-nil ran)) tells
 tells_journal (x ∷ journal) counted asked ran tells =
     let word : Option (List ℕ) = word_run x in
-    subst (λ (words : List (List ℕ)). Tells (see_journal (see counted word) journal) asked words)
+    subst (λ (words : List (List ℕ)). IsTallyOf (see_journal (see counted word) journal) asked words)
     (grown ran (option_to_list word) (words_run journal) (words_run (x ∷ journal)) (listed word_run x journal word refl))
     (tells_journal journal (see counted word) asked (ran ++ option_to_list word) (tells_see counted asked ran word tells))
 
-pub tells_nothing : Tells [] [] []
+pub tells_nothing : IsTallyOf [] [] []
 tells_nothing = record { each = λ (q : List ℕ). refl }
 
 -- ---- the map behind the counts

@@ -19,7 +19,7 @@ use Rattle.std.proofs.lemmas.Map.Keys.{sorted_head, sorted_tail, IsDistinct-from
 use Rattle.std.proofs.lemmas.Option.{slice_get-get_or}
 use Rattle.am_lemmas.proofs.Numbers.{eqb_more}
 use Rattle.am_job.specs.declared.words.tally.Count.{Count}
-use Rattle.am_job.specs.Words.Counts.{Counted, IsCountOf, Tells, capped, count_at, row_of, rows_of, same_word, times}
+use Rattle.am_job.specs.Words.Counts.{Counted, IsCountOf, IsTallyOf, capped, count_at, row_of, rows_of, same_word, times}
 use Rattle.am_job.specs.Words.Lists.{WordCountLists}
 use Rattle.am_job.proofs.Tallied.{same_is}
 
@@ -147,7 +147,7 @@ has_word word counted (Some count) a r at is some =
     let here : count.asked ≡ capped a = ap (λ (c : Count). c.asked) is in
     has_row word counted count at (eqb_more count.asked 0 (omega arith))
 
-pub rows_count : (counted : Counted) (asked ran : List (List ℕ)) → IsStrictlySortedBy (slice_cmp nat_cmp) (keys_of counted) → Tells counted asked ran →
+pub rows_count : (counted : Counted) (asked ran : List (List ℕ)) → IsStrictlySortedBy (slice_cmp nat_cmp) (keys_of counted) → IsTallyOf counted asked ran →
     ((word : List ℕ) → times ran word ≤ times asked word) → ((word : List ℕ) → times asked word < 0xffff_ffff_ffff_ffff) → IsCountOf asked ran (rows_of counted)
 rows_count counted asked ran sorted tells few small =
     let here : (e : List ℕ × Count) → count_at counted e.0 ≡ e.1 →

@@ -1,3 +1,3 @@
-pub mod Due
 pub mod Saying
+pub mod Statuses
 pub mod Steps

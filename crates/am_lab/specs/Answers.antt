@@ -1,16 +1,14 @@
 -- What the program answers to what was asked for, and to the bytes that were read for it.
-use Rattle.std.specs.Prelude.{◌≡◌, ◌≢◌, ◌⊎◌, ℕ, ◌≤◌, Bool, true, false, List, [], ◌∷◌, codes, length, Option, Some, None}
+use Rattle.std.specs.Prelude.{◌≡◌, ◌≢◌, ◌⊎◌, ℕ, Bool, true, false, List, [], ◌∷◌, codes, Option, Some, None}
 use Rattle.std.specs.Fmt.{decimal}
-use Rattle.am_io.specs.Causes.{Rose, Stands, Counter}
-use Rattle.am_io.specs.Whole.{IsAll, IsLonger}
+use Rattle.am_io.specs.Causes.{Counter}
+use Rattle.am_main_answer.specs.Answers.{IsDueOffered, IsDueTaken, IsDueTo, statuses_of}
 use Rattle.am_main_step.specs.Checks.{CheckAnswers}
 use Rattle.am_main_lines.specs.Lines.{Answer}
 use Rattle.am_names.specs.declared.EndpointId.{EndpointId}
 use Rattle.am_office_text.specs.Words.{line}
 use Rattle.am_lab.specs.Cuts.{cut_report, full_line_of}
 use Rattle.am_lab.specs.Explains.{Explains}
-use Rattle.am_main_lines.specs.Offers.{IsOffered, no_memory, read_fault}
-use Rattle.am_main_run.specs.Runs.{RunAnswers}
 use Rattle.am_names.specs.declared.Serial.{Serial}
 use Rattle.am_scenario.specs.Grammar.{grammar}
 use Rattle.am_scenario_types.specs.declared.parts.Form.{Form}
@@ -20,11 +18,13 @@ use Rattle.am_lab_drawings.specs.Charts.{ChartAnswers}
 use Rattle.am_lab_drawings.specs.declared.view.parts.LineRange.{LineRange}
 use Rattle.am_lab_words.specs.declared.Lines.{Lines}
 use Rattle.am_lab_page.specs.Json.Answers.{JsonAnswers}
+use Rattle.am_lab_page.specs.Page.Pages.{PageAnswers}
 use Rattle.am_lab_scenarios.specs.Derived.Answers.{ExpandedAnswers, FaultsAnswers, PrintsScenario, RoundAnswers}
 use Rattle.am_scenario_generator.specs.Scenarios.{generated}
-use Rattle.am_lab_reasons.specs.Reasons.{IsDeclared, Tells}
+use Rattle.am_lab_reasons.specs.Reasons.{IsDeclared, TellsReasons}
 use Rattle.am_lab_schedules.specs.Finds.{FindAnswers}
 use Rattle.am_lab_schedules.specs.Schedules.{SchedulesAnswers}
+use Rattle.am_lab_schedules.specs.Trials.{ScheduleAnswers}
 use Rattle.am_lab_schedules.specs.declared.finds.Wanted.TheVariants as Wanted
 use Rattle.am_lab_shrink.specs.Shrinks.{ShrinkAnswers}
 use Rattle.am_lab_shrink.specs.declared.reports.Making.{Making}
@@ -56,7 +56,7 @@ pub record TellsMessage (form : Form) (bytes : List ℕ) (serial : Serial) (chec
   pub right : checked.status ≡ 0
   pub declared : IsDeclared form bytes serial.source true
   pub out : List ℕ
-  pub tells : Tells form bytes serial out
+  pub tells : TellsReasons form bytes serial out
   pub answer' : answer ≡ record { status = 0; text = out }
 
 -- THE HEADLINE, for `why`: the answer is that of `check`, but where that says that the report is right, what became of the message is told,
@@ -82,8 +82,10 @@ abbrev pub making_of : Form → Making
 making_of Forms.Step = Makings.Steps
 making_of Forms.Run = Makings.Drain
 
--- The answer of a command to bytes with no line of a full log in front of a report; `given` are the words that a line is to begin with, for `find` and `shrink`; `scenario make` has no bytes to look at. The answer to `schedule` is one that `run` may give to
--- the text, whatever the seed; to `schedule` with many seeds it tells one such run for each.
+-- The answer of a command to bytes with no line of a full log in front of a report; `given` are the words that a line is to begin with, for
+-- `find` and `shrink`; `scenario make` has no bytes to look at. The answer to `schedule` is one that `run` may give, whatever the seed, to the
+-- scenario that the text spells, with the plan that the seed draws if one is asked for; to `schedule` with many seeds it tells one such run for
+-- each.
 unfoldable pub AnswersTo : Asked → (given bytes : List ℕ) → Answer → Type 0
 AnswersTo (Commands.Explain form) given bytes answer = Explains false form bytes answer
 AnswersTo Commands.Front given bytes answer = Explains true Forms.Step bytes answer
@@ -94,12 +96,15 @@ AnswersTo (Commands.Made n) given bytes answer = PrintsScenario (generated n) an
 AnswersTo Commands.Expanded given bytes answer = ExpandedAnswers (segment_grammar bytes) answer
 AnswersTo (Commands.Round nodes turns number) given bytes answer = RoundAnswers nodes turns number bytes answer
 AnswersTo Commands.Replay given bytes answer = ReplayAnswers bytes answer
-AnswersTo (Commands.Schedule seed) given bytes answer = RunAnswers (grammar Forms.Run bytes) answer
-AnswersTo (Commands.Schedules seeds) given bytes answer = SchedulesAnswers (grammar Forms.Run bytes) seeds.from seeds.to answer
+AnswersTo (Commands.Schedule seed faults) given bytes answer = ScheduleAnswers faults seed (grammar Forms.Run bytes) answer
+AnswersTo (Commands.Schedules trials) given bytes answer = SchedulesAnswers trials.faults (grammar Forms.Run bytes) trials.seeds.from trials.seeds.to answer
 AnswersTo (Commands.Json form) given bytes answer = JsonAnswers form bytes answer
+AnswersTo (Commands.Page form) given bytes answer = PageAnswers form bytes answer
 AnswersTo (Commands.State form states) given bytes answer = StateAnswers form bytes (lines_of_states states) answer
-AnswersTo (Commands.Find seeds) given bytes answer = FindAnswers (grammar Forms.Run bytes) Wanted.WithLine given seeds.from seeds.to answer
-AnswersTo (Commands.FindWithout seeds) given bytes answer = FindAnswers (grammar Forms.Run bytes) Wanted.WithoutLine given seeds.from seeds.to answer
+AnswersTo (Commands.Find trials) given bytes answer =
+    FindAnswers trials.faults (grammar Forms.Run bytes) Wanted.WithLine given trials.seeds.from trials.seeds.to answer
+AnswersTo (Commands.FindWithout trials) given bytes answer =
+    FindAnswers trials.faults (grammar Forms.Run bytes) Wanted.WithoutLine given trials.seeds.from trials.seeds.to answer
 AnswersTo (Commands.Faults seed percent) given bytes answer = FaultsAnswers seed percent (grammar Forms.Run bytes) answer
 AnswersTo (Commands.Shrink form) given bytes answer = ShrinkAnswers (making_of form) given bytes answer
 AnswersTo (Commands.ShrinkSeeded seed) given bytes answer = ShrinkAnswers (Makings.Seed seed) given bytes answer
@@ -110,39 +115,56 @@ AnswersUncut (Some line) asked given bytes answer = answer ≡ cut_report line
 AnswersUncut None asked given bytes answer = AnswersTo asked given bytes answer
 
 -- the answer of a command to the bytes
-abbrev pub AnswersText : Asked → (given bytes : List ℕ) → Answer → Type 0
+unfoldable pub AnswersText : Asked → (given bytes : List ℕ) → Answer → Type 0
 AnswersText asked given bytes answer = AnswersUncut (full_line_of asked bytes) asked given bytes answer
+
+-- The statuses of these answers: 0 what the command is for; 3 a text that spells no scenario, or a step that can't happen; 6 a full log;
+-- 10 a fault of a report; 11 more than the command takes; 12 nothing of that name.
+unfoldable pub own_statuses : Asked → List ℕ
+own_statuses (Commands.Explain form) = 0 ∷ 3 ∷ 6 ∷ 10 ∷ []
+own_statuses Commands.Front = 0 ∷ 3 ∷ 6 ∷ 10 ∷ []
+own_statuses (Commands.Why form serial) = 0 ∷ 3 ∷ 6 ∷ 10 ∷ 12 ∷ []
+own_statuses (Commands.Chart form lines) = 0 ∷ 3 ∷ 6 ∷ 10 ∷ 11 ∷ 12 ∷ []
+own_statuses (Commands.Scenario form) = 0 ∷ 3 ∷ []
+own_statuses (Commands.Made n) = 0 ∷ []
+own_statuses Commands.Expanded = 0 ∷ 3 ∷ []
+own_statuses (Commands.Round nodes turns number) = 0 ∷ 11 ∷ 12 ∷ []
+own_statuses Commands.Replay = 0 ∷ 3 ∷ 6 ∷ 10 ∷ 11 ∷ []
+own_statuses (Commands.Schedule seed faults) = 0 ∷ 3 ∷ 6 ∷ []
+own_statuses (Commands.Schedules trials) = 0 ∷ 3 ∷ 6 ∷ []
+own_statuses (Commands.Json form) = 0 ∷ 3 ∷ 6 ∷ 10 ∷ []
+own_statuses (Commands.Page form) = 0 ∷ 3 ∷ 6 ∷ 10 ∷ 11 ∷ 12 ∷ []
+own_statuses (Commands.State form states) = 0 ∷ 3 ∷ 6 ∷ 10 ∷ 12 ∷ []
+own_statuses (Commands.Find trials) = 0 ∷ 3 ∷ 6 ∷ 12 ∷ []
+own_statuses (Commands.FindWithout trials) = 0 ∷ 3 ∷ 6 ∷ 12 ∷ []
+own_statuses (Commands.Faults seed percent) = 0 ∷ 3 ∷ []
+own_statuses (Commands.Shrink form) = 0 ∷ 3 ∷ 6 ∷ 11 ∷ 12 ∷ []
+own_statuses (Commands.ShrinkSeeded seed) = 0 ∷ 3 ∷ 6 ∷ 11 ∷ 12 ∷ []
 
 -- ---- which answer is due
 
-abbrev pub too_long : Answer
-too_long = record { status = 7; text = codes "input too long: more than 16777216 bytes\n" }
-
--- the bytes are those that a source had left, at most 16,777,216, and this is an answer to them; what it doesn't tell may be any bytes
-pub record Finds (asked : Asked) (given : List ℕ) (left : Option (List ℕ)) (answer : Answer) : Type 0 where
-  pub bytes : List ℕ
-  pub all : IsAll left bytes
-  pub few : length bytes ≤ 16_777_216
-  pub answers : AnswersText asked given bytes answer
+-- the line that tells too many bytes
+abbrev pub too_long : List ℕ
+too_long = codes "input too long: more than 16777216 bytes\n"
 
 -- whether a command needs a text from the source
-abbrev pub reads_text : Asked → Bool
+unfoldable pub reads_text : Asked → Bool
 reads_text (Commands.Made n) = false
 reads_text asked = true
 
--- Where a read failed, that is told, whatever was read. Else the bytes are too many, memory ran out, or they are answered.
-abbrev pub IsDueToText : Asked → (given : List ℕ) (left : Option (List ℕ)) (before now : Counter) → Answer → Type 0
-IsDueToText asked given left before now answer =
-    (Rose before now × (answer ≡ read_fault))
-    ⊎ (Stands before now × ((IsLonger left 16_777_216 × (answer ≡ too_long)) ⊎ ((answer ≡ no_memory) ⊎ Finds asked given left answer)))
-
--- To `scenario make` the scenario, or that memory ran out: it reads nothing.
-abbrev pub IsDue : Asked → (given : List ℕ) (left : Option (List ℕ)) (before now : Counter) → Answer → Type 0
-IsDue (Commands.Made n) given left before now answer = (answer ≡ no_memory) ⊎ PrintsScenario (generated n) answer
-IsDue asked given left before now answer = IsDueToText asked given left before now answer
+-- Where a text is read: if a read failed, that is told. Else the bytes are too many, memory ran out, or they are all that was left and the
+-- answer is one to them. `scenario make` reads nothing.
+unfoldable pub IsDue : Asked → (given : List ℕ) (left : Option (List ℕ)) (before now : Counter) → Answer → Type 0
+IsDue asked given left before now answer = IsDueTo (reads_text asked) too_long (AnswersText asked given) left before now answer
 
 -- THE PROGRAM: an answer that is due was offered
-pub record IsAnswered (asked : Asked) (given : List ℕ) (left : Option (List ℕ)) (before now : Counter) (status : ℕ) (old new : Option (List ℕ)) : Type 0 where
-  pub answer : Answer
-  pub due : IsDue asked given left before now answer
-  pub offered : IsOffered answer status old new
+abbrev pub IsAnswered : Asked → (given : List ℕ) (left : Option (List ℕ)) (before now : Counter) (status : ℕ) (old new : Option (List ℕ)) → Type 0
+IsAnswered asked given left before now status old new = IsDueOffered (IsDue asked given left before now) status old new
+
+-- and the sink took it whole
+abbrev pub IsTaken : Asked → (given : List ℕ) (left : Option (List ℕ)) (before now : Counter) (status : ℕ) (old new : Option (List ℕ)) → Type 0
+IsTaken asked given left before now status old new = IsDueTaken (IsDue asked given left before now) status old new
+
+-- with which statuses the program ends
+unfoldable pub statuses : Asked → List ℕ
+statuses asked = statuses_of (reads_text asked) (own_statuses asked)

@@ -4,7 +4,7 @@ use Rattle.am_check.specs.Cut.{place_of}
 use Rattle.am_check.specs.Verdict.{Checks}
 use Rattle.am_check.specs.declared.faults.CheckStop.TheVariants as Stops
 use Rattle.am_check.specs.declared.faults.CheckWhat.{CheckWhat}
-use Rattle.am_lab_reasons.specs.Due.Due.{IsDue}
+use Rattle.am_lab_reasons.specs.Due.Due.{WasDue}
 use Rattle.am_lab_reasons.specs.Refusals.Refusals.{refusal_text, source_text}
 use Rattle.am_lab_reasons.specs.Stops.{stop_text}
 use Rattle.am_main_step.specs.Checks.{CheckAnswers}
@@ -27,7 +27,7 @@ pub record ExplainsFault (form : Form) (bytes : List ℕ) (checked answer : Answ
   pub what : CheckWhat
   pub verdict : Checks form bytes (Err (Stops.Fault number what))
   pub due : List ℕ
-  pub due' : IsDue form bytes number what due
+  pub due' : WasDue form bytes number what due
   pub answer' : answer ≡ record { status = checked.status; text = checked.text ++ due }
 
 -- the answer is that of `check`, and where that tells a fault of the report, what was due follows

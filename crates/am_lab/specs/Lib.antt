@@ -1,4 +1,4 @@
 pub mod Cuts
 pub mod Explains
 pub mod Answers
-pub mod Replies
+pub mod Laws

@@ -3,11 +3,12 @@
 ghost use Rattle.am_lab.specs.Answers as answers;
 ghost use Rattle.am_lab.specs.Answers.{AnswersText, AnswersTo, TellsWhy, no_endpoint};
 ghost use Rattle.am_lab_schedules.specs.Finds.{FindAnswers};
-ghost use Rattle.am_lab_words.specs.Ranges.{AreFewSeeds, IsInRange};
+ghost use Rattle.am_lab_schedules.specs.Schedules.{SchedulesAnswers};
+ghost use Rattle.am_lab_schedules.specs.Trials.{ScheduleAnswers};
+ghost use Rattle.am_lab_words.specs.Ranges.{AreTrials, IsInRange, IsPercent};
 ghost use Rattle.am_lab_reasons.specs.Reasons.{IsDeclared};
 ghost use Rattle.am_main_step.specs.Checks.{CheckAnswers};
 ghost use Rattle.am_main_lines.specs.Lines.{answer_in};
-ghost use Rattle.am_main_run.specs.Runs.{RunAnswers};
 ghost use Rattle.am_scenario.specs.Grammar.{grammar};
 ghost use Rattle.am_scenario_types.specs.declared.parts.Form.TheVariants as Forms;
 ghost use Rattle.std.specs.Prelude.{◌≡◌, ◌<◌, ◌^◌, IfOk, false, length, true};
@@ -18,16 +19,17 @@ use am_check::laws::yes_is_true;
 use am_lab_drawings::chart_output;
 use am_lab_drawings::view::LineRange;
 use am_lab_page::json::json_output;
+use am_lab_page::page::page_output;
 use am_lab_reasons::{is_declared, why};
 use am_lab_scenarios::derived::{
     expanded_scenario, faulty_scenario, made_scenario, round_scenario,
 };
 use am_lab_scenarios::texts::{replay_output, scenario_output};
-use am_lab_schedules::one_seed::schedule_output;
+use am_lab_schedules::one_seed::seed_output;
 use am_lab_schedules::{Wanted, find_output, schedules_output};
 use am_lab_shrink::{Making, shrink_output};
 use am_lab_state::{StateLines, state_output};
-use am_lab_words::{Asked, Lines, Seeds, States};
+use am_lab_words::{Asked, Lines, States, Trials};
 use am_main_lines::Output;
 use am_main_step::check_output;
 use am_names::{EndpointId, NoMemory, Serial};
@@ -118,10 +120,11 @@ fn told_why(alloc: Global, form: Form, bytes: &[u8], serial: Serial) -> Result<O
 }
 
 // The report of a run by a seed.
-fn scheduled(alloc: Global, bytes: &[u8], seed: u64) -> Result<Output, NoMemory>
-    ensures { IfOk result (λ o. RunAnswers (grammar Forms.Run bytes.now) (answer_in o)) }
+fn scheduled(alloc: Global, bytes: &[u8], seed: u64, faults: Option<u8>) -> Result<Output, NoMemory>
+    requires { IsPercent faults }
+    ensures { IfOk result (λ o. ScheduleAnswers faults seed (grammar Forms.Run bytes.now) (answer_in o)) }
 {
-    match schedule_output(alloc, bytes, seed) {
+    match seed_output(alloc, bytes, seed, faults) {
         Ok(output) => Ok(output),
         Err(_) => Err(NoMemory),
     }
@@ -144,14 +147,24 @@ fn part_of(lines: Option<Lines>) -> Option<LineRange>
 fn found(
     alloc: Global,
     bytes: &[u8],
-    seeds: Seeds,
+    trials: Trials,
     given: &[u8],
     wanted: Wanted,
 ) -> Result<Output, NoMemory>
-    requires { AreFewSeeds seeds }
-    ensures { IfOk result (λ o. FindAnswers (grammar Forms.Run bytes.now) wanted given.now seeds.from seeds.to (answer_in o)) }
+    requires { AreTrials trials }
+    ensures { IfOk result (λ o. FindAnswers trials.faults (grammar Forms.Run bytes.now) wanted given.now trials.seeds.from trials.seeds.to (answer_in o)) }
 {
-    Ok(find_output(alloc, bytes, seeds.from, seeds.to, given, wanted)?)
+    let Trials { seeds, faults } = trials;
+    find_output(alloc, bytes, faults, seeds.from, seeds.to, given, wanted)
+}
+
+// What is told of the runs of these seeds.
+fn told_of_each(alloc: Global, bytes: &[u8], trials: Trials) -> Result<Output, NoMemory>
+    requires { AreTrials trials }
+    ensures { IfOk result (λ o. SchedulesAnswers trials.faults (grammar Forms.Run bytes.now) trials.seeds.from trials.seeds.to (answer_in o)) }
+{
+    let Trials { seeds, faults } = trials;
+    schedules_output(alloc, bytes, faults, seeds.from, seeds.to)
 }
 
 // The lines whose states the words have.
@@ -176,6 +189,7 @@ fn making_of(form: Form) -> Making
 }
 
 /// The answer of a command to a text, where a line that is asked for begins with the given words.
+#[tactic(auto, unfolding(crate::specs::Answers::AnswersText))]
 pub(crate) fn answered(
     alloc: Global,
     asked: Asked,
@@ -218,12 +232,13 @@ fn answered_uncut(
             number,
         } => round_scenario(alloc, nodes, turns, number, bytes),
         Asked::Replay => replay_output(alloc, bytes),
-        Asked::Schedule(seed) => scheduled(alloc, bytes, seed),
-        Asked::Schedules(seeds) => schedules_output(alloc, bytes, seeds.from, seeds.to),
+        Asked::Schedule { seed, faults } => scheduled(alloc, bytes, seed, faults),
+        Asked::Schedules(trials) => told_of_each(alloc, bytes, trials),
         Asked::Json(form) => json_output(alloc, form, bytes),
+        Asked::Page(form) => page_output(alloc, form, bytes),
         Asked::State { form, states } => state_output(alloc, form, bytes, lines_of(states)),
-        Asked::Find(seeds) => found(alloc, bytes, seeds, given, Wanted::WithLine),
-        Asked::FindWithout(seeds) => found(alloc, bytes, seeds, given, Wanted::WithoutLine),
+        Asked::Find(trials) => found(alloc, bytes, trials, given, Wanted::WithLine),
+        Asked::FindWithout(trials) => found(alloc, bytes, trials, given, Wanted::WithoutLine),
         Asked::Faults { seed, percent } => faulty_scenario(alloc, seed, percent, bytes),
         Asked::Shrink(form) => shrink_output(alloc, making_of(form), given, bytes),
         Asked::ShrinkSeeded(seed) => shrink_output(alloc, Making::Seed(seed), given, bytes),

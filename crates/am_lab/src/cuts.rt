@@ -48,12 +48,13 @@ fn reads_report(asked: Asked) -> bool
         | Asked::Chart { .. }
         | Asked::Replay
         | Asked::Json(_)
+        | Asked::Page(_)
         | Asked::State { .. } => true,
         Asked::Scenario(_)
         | Asked::Made(_)
         | Asked::Expanded
         | Asked::Round { .. }
-        | Asked::Schedule(_)
+        | Asked::Schedule { .. }
         | Asked::Schedules(_)
         | Asked::Find(_)
         | Asked::FindWithout(_)

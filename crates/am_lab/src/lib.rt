@@ -4,7 +4,9 @@
 mod answers;
 mod cuts;
 mod explains;
-mod replies;
+mod laws;
+mod requests;
 mod top;
 
+pub use crate::laws::answers_say;
 pub use crate::top::{answer, answer_no_memory};

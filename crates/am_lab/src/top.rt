@@ -3,29 +3,18 @@
 ghost use Rattle.am_io.specs.Causes.{Rose, Stands};
 ghost use Rattle.am_io.specs.Whole.{TakesAtMost};
 ghost use Rattle.am_lab.specs.Answers.{IsAnswered, reads_text};
-ghost use Rattle.am_main_lines.specs.Offers.{IsOffered, no_memory};
-ghost use Rattle.am_lab.specs.Replies.{answer_of};
 ghost use Rattle.am_lab_words.specs.Ranges.{IsInRange};
-ghost use Rattle.std.specs.Prelude.{◌≡◌, ◌≢◌, false};
+ghost use Rattle.am_main_answer.specs.Answers.{IsFault, LacksMemory};
+ghost use Rattle.am_main_lines.specs.Offers.{IsOffered, no_memory};
+ghost use Rattle.std.specs.Prelude.{◌≡◌, ◌≢◌, false, true};
 
-use crate::replies::{Reply, reply_to};
-use am_io::{Sink, SinkFault, Source, give_all};
+use crate::requests::Request;
+use am_io::{Sink, Source};
 use am_lab_words::Asked;
+use am_main_answer as answers;
 use std::alloc::Global;
 
-// Offers a reply. The status is its own, or that of a fault of the sink.
-fn offer<K: Sink>(sink: &mut K, reply: &Reply) -> u8
-    ensures offered { IsOffered (answer_of reply.now) result (K.held sink.old) (K.held sink.new) }
-    ensures write_fault { (answer_of reply.now).status ≢ 5 → result ≡ 5 → Rose (K.count sink.old) (K.count sink.new) }
-    ensures no_write_fault { result ≢ 5 → Stands (K.count sink.old) (K.count sink.new) }
-    ensures no_shortage { result ≢ 8 → Stands (K.shortages sink.old) (K.shortages sink.new) }
-{
-    match give_all(sink, reply.text()) {
-        Ok(()) => reply.status(),
-        Err(SinkFault::Failed) => 5,
-        Err(SinkFault::NoMemory) => 8,
-    }
-}
+const TOO_LONG: &[u8] = b"input too long: more than 16777216 bytes\n";
 
 /// The program behind its words, over any source that hasn't ended and any sink: it reads a scenario, and but for
 /// `scenario` and `schedule` behind it its report, to the end of the source, and answers what is asked for. It gives the
@@ -41,7 +30,8 @@ fn offer<K: Sink>(sink: &mut K, reply: &Reply) -> u8
 /// `schedule` prints the report of a run of the scenario, as `am2 run` may; or of many such runs a line each, and how many
 /// distinct journals there were. `find` prints the report of the least seed whose report has a line that begins with the given words, or
 /// has none; `faults` the scenario with a plan that a seed draws; `shrink` some lines of the scenario whose report still has a line that
-/// begins with the given words, and of which none can be left out. `json` answers a right report with its journal as lines of JSON, and `state`
+/// begins with the given words, and of which none can be left out. `json` answers a right report with its journal as lines of JSON, `page`
+/// with a page that has both the journal and the picture, and `state`
 /// with the machine's state at its end or behind a line, or with what changed from one line to another.
 /// The given words are of use for `find` and `shrink` alone.
 ///
@@ -63,6 +53,7 @@ fn offer<K: Sink>(sink: &mut K, reply: &Reply) -> u8
 /// | 12 | `no such seed` and the range | `find` where no seed's report is one that is looked for |
 /// | 12 | `no such line` | `shrink` of a scenario whose report has no line that begins with the given words |
 /// | 11 | `more than 4096 lines` | `shrink` of a text with more lines |
+#[tactic(auto, unfolding(crate::specs::Answers::IsDue))]
 pub fn answer<S: Source, K: Sink>(
     alloc: Global,
     asked: Asked,
@@ -74,20 +65,23 @@ pub fn answer<S: Source, K: Sink>(
     requires in_range { IsInRange asked }
     // An answer that is due to what is asked for, and to what the source had left, was offered to the sink.
     ensures answered { IsAnswered asked given.now (S.left source.old) (S.count source.old) (S.count source.new) result (K.held sink.old) (K.held sink.new) }
-    // No write that failed, or that found no memory, is passed over.
+    // A write failed where the status is 5, and nowhere else.
+    ensures write_fault { result ≡ 5 → Rose (K.count sink.old) (K.count sink.new) }
     ensures no_write_fault { result ≢ 5 → Stands (K.count sink.old) (K.count sink.new) }
+    // There was no memory where the status is 8: the line that says so was appended, or the sink met a shortage. Nowhere else did it meet one.
+    ensures no_memory { result ≡ 8 → LacksMemory (K.held sink.old) (K.held sink.new) (K.shortages sink.old) (K.shortages sink.new) }
     ensures no_shortage { result ≢ 8 → Stands (K.shortages sink.old) (K.shortages sink.new) }
-    // Where no text is needed nothing is read.
+    // A text is read to its end where it is answered; `scenario make` leaves the source as it was.
+    ensures ended { reads_text asked ≡ true → ¬ IsFault result → S.has_ended source.new ≡ true }
     ensures unread { reads_text asked ≡ false → source.new ≡ source.old }
     ensures took { TakesAtMost 16777217 (S.left source.old) (S.left source.new) }
 {
-    let reply = reply_to(alloc, asked, given, source);
-    offer(sink, &reply)
+    answers::answer_to(alloc, &Request { asked, given }, TOO_LONG, source, sink)
 }
 
 /// What the program answers where there is no memory for the words after its name: it offers the line that says so.
 pub fn answer_no_memory<K: Sink>(sink: &mut K) -> u8
     ensures { IsOffered no_memory result (K.held sink.old) (K.held sink.new) }
 {
-    offer(sink, &Reply::NoMemory)
+    answers::answer_no_memory(sink)
 }

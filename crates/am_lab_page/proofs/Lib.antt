@@ -3,3 +3,5 @@ pub mod Telling
 pub mod Cutting
 pub mod Plain
 pub mod Lines
+pub mod Paging
+pub mod Scripts

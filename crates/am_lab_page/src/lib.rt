@@ -1,4 +1,5 @@
-//! A report for other programs: its journal as JSON.
+//! A report for other programs, as JSON, and for whoever looks, as a page.
 #![tactic(auto)]
 
 pub mod json;
+pub mod page;

@@ -17,7 +17,7 @@ use Rattle.am_check.specs.Follows.{Comes}
 use Rattle.am_check.specs.Verdict.{Reaches, count_of}
 use Rattle.am_lexer.specs.Text.{lines_of}
 use Rattle.am_check.proofs.Coming.{in_range, told_by_line}
-use Rattle.am_lab_reasons.specs.Journal.Lines.{AreLines, HasEnd, HasLines, HasPlace, IsMadeAgain}
+use Rattle.am_lab_reasons.specs.Journal.Lines.{AreLines, HasEnd, HasLines, IsBehindLines, IsMadeAgain}
 
 -- ---- a journal that follows its scenario is made again by its lines
 
@@ -101,7 +101,7 @@ at_last layout journal left count place past rest is ended = by_more is.more is.
 
 -- ---- the lines of a journal in a report
 
-pub place_lines : (layout : Layout) (bytes : List ℕ) (lines : List (List ℕ)) (number : ℕ) → HasPlace layout bytes number → lines ≡ drop 2 (lines_of bytes) →
+pub place_lines : (layout : Layout) (bytes : List ℕ) (lines : List (List ℕ)) (number : ℕ) → IsBehindLines layout bytes number → lines ≡ drop 2 (lines_of bytes) →
     HasLines layout lines (number - 3)
 place_lines layout bytes lines number h e =
     record {

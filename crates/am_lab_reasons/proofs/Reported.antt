@@ -23,7 +23,7 @@ use Rattle.am_scenario_types.specs.Lawful.{IsLawful}
 use Rattle.am_model_scripts.specs.Layout.{layout_of}
 use Rattle.am_lab_reasons.specs.Journal.Lines.{AreLines, HasEnd}
 use Rattle.am_lab_reasons.proofs.Again.{are_lines}
-use Rattle.am_lab_reasons.specs.Reasons.{Tells, TellsOf, reasons}
+use Rattle.am_lab_reasons.specs.Reasons.{TellsReasons, TellsOf, reasons}
 
 -- a report, its journal, and what its lines say of it
 pub record IsReported (form : Form) (s : ScenarioLists) (bytes : List ℕ) (journal : List Entry) : Type 0 where
@@ -81,14 +81,14 @@ one_place a b o e f = cc
 pub tells_all : {E : Type 0} (form : Form) (text : List ℕ) (serial : Serial) → IsChecked form text → (place : ℕ) (bytes : List ℕ) (s : ScenarioLists) →
     place_of text ≡ Some place → bytes ≡ drop place text → grammar form (take place text) ≡ Ok s → (result : Result (Vec ℕ) E) →
     ((f : Form) → IsReportOf f s bytes → IfOk result (λ (out : Vec ℕ). TellsOf f s bytes serial out.items)) →
-    IfOk result (λ (out : Vec ℕ). Tells form text serial out.items)
+    IfOk result (λ (out : Vec ℕ). TellsReasons form text serial out.items)
 tells_all form text serial k place bytes s at behind' spelled result f =
     let e : k.place ≡ place = one_place k.place place (place_of text) k.place' at in
     let same : k.scenario ≡ s = same_scenario k.scenario s (grammar form (take place text))
     (subst (λ (p : ℕ). grammar form (take p text) ≡ Ok k.scenario) e k.spelled) spelled in
     let report' = subst (λ (t : ScenarioLists). IsReportOf form t (drop place text)) same
     (subst (λ (p : ℕ). IsReportOf form k.scenario (drop p text)) e k.report) in
-    told_if result (λ (out : List ℕ). TellsOf form s bytes serial out) (λ (out : List ℕ). Tells form text serial out)
+    told_if result (λ (out : List ℕ). TellsOf form s bytes serial out) (λ (out : List ℕ). TellsReasons form text serial out)
     (λ out p. record { place = place; place' = at; scenario = s; spelled = spelled; told = subst (λ (b : List ℕ). TellsOf form s b serial out) behind' p })
     (f form (subst (λ (b : List ℕ). IsReportOf form s b) (sym behind') report'))
 

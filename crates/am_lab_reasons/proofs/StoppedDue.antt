@@ -31,7 +31,7 @@ use Rattle.am_model_scripts.specs.Layout.{layout_of}
 use Rattle.am_lab_reasons.specs.Journal.Lines as Made
 use Rattle.am_lab_reasons.specs.Journal.Lines.{AreLines}
 use Rattle.am_lab_reasons.proofs.Again.{are_lines}
-use Rattle.am_lab_reasons.specs.Due.Due.{HasEvent, HasPlace, IsDue, IsDueOf, StandsAt}
+use Rattle.am_lab_reasons.specs.Due.Due.{HasEvent, IsBehindJournal, WasDue, WasDueOf, StandsAt}
 
 -- ---- a line's number
 
@@ -63,7 +63,7 @@ stands form s bytes number journal left few r is =
 -- ---- what stops a report
 
 pub follows_place : (form : Form) (s : ScenarioLists) (bytes : List ℕ) (number : ℕ) → length bytes < 2 ^ 31 →
-    StopsReport form s bytes (Answers.Fault number Whats.Follows) → HasPlace form s bytes number
+    StopsReport form s bytes (Answers.Fault number Whats.Follows) → IsBehindJournal form s bytes number
 follows_place form s bytes number few (inl p) =
     record { journal = p.journal; left = p.has.left; at = stands form s bytes number p.journal p.has.left few p.has.reached p.number' }
 follows_place form s bytes number few (inr p) =
@@ -109,7 +109,7 @@ lines_at form s lawful bytes number journal left at layout same =
     (are_lines form s lawful (drop 2 (lines_of bytes)) journal left at.reached)
 
 pub place_at : (form : Form) (s : ScenarioLists) → IsLawful s → (bytes : List ℕ) (number : ℕ) (journal : List Entry) (left : List (List ℕ)) →
-    StandsAt form s bytes number journal left → (layout : Layout) → layout ≡ layout_of s → Made.HasPlace layout bytes number
+    StandsAt form s bytes number journal left → (layout : Layout) → layout ≡ layout_of s → Made.IsBehindLines layout bytes number
 place_at form s lawful bytes number journal left at layout same =
     record { journal = journal; left = left; are = lines_at form s lawful bytes number journal left at layout same; number' = at.number' }
 
@@ -143,7 +143,7 @@ pub same_scenario : (a b : ScenarioLists) (r : Result ScenarioLists ScenarioFaul
 same_scenario a b r e f = cc
 
 pub is_due : (form : Form) (text : List ℕ) (number : ℕ) (what : CheckWhat) (out : List ℕ) (place : ℕ) → place_of text ≡ Some place →
-    (s : ScenarioLists) × Spells form (take place text) s × IsDueOf form s (drop place text) number what out → IsDue form text number what out
+    (s : ScenarioLists) × Spells form (take place text) s × WasDueOf form s (drop place text) number what out → WasDue form text number what out
 is_due form text number Whats.Form out place at p = p.2
 is_due form text number (Whats.NotEnabled condition) out place at p = record { place = place; place' = at; scenario = p.0; spelled = p.1; due = p.2 }
 is_due form text number Whats.Outcome out place at p = record { place = place; place' = at; scenario = p.0; spelled = p.1; due = p.2 }
@@ -152,24 +152,24 @@ is_due form text number Whats.Tail out place at p = record { place = place; plac
 
 -- what is told for what is wrong there
 pub due_in : {E : Type 0} (form : Form) (s : ScenarioLists) (bytes : List ℕ) (number : ℕ) (what other : CheckWhat) (r : Result (Vec ℕ) E) → what ≡ other →
-    IfOk r (λ (out : Vec ℕ). IsDueOf form s bytes number other out.items) → IfOk r (λ (out : Vec ℕ). IsDueOf form s bytes number what out.items)
-due_in form s bytes number what other r e h = subst (λ (w : CheckWhat). IfOk r (λ (out : Vec ℕ). IsDueOf form s bytes number w out.items)) (sym e) h
+    IfOk r (λ (out : Vec ℕ). WasDueOf form s bytes number other out.items) → IfOk r (λ (out : Vec ℕ). WasDueOf form s bytes number what out.items)
+due_in form s bytes number what other r e h = subst (λ (w : CheckWhat). IfOk r (λ (out : Vec ℕ). WasDueOf form s bytes number w out.items)) (sym e) h
 
 pub stopped_for : (form : Form) (s : ScenarioLists) (bytes : List ℕ) (number : ℕ) (what other : CheckWhat) → what ≡ other →
     StopsReport form s bytes (Answers.Fault number what) → StopsReport form s bytes (Answers.Fault number other)
 stopped_for form s bytes number what other e h = subst (λ (w : CheckWhat). StopsReport form s bytes (Answers.Fault number w)) e h
 
 pub told_behind : {E : Type 0} (form : Form) (front bytes : List ℕ) (number : ℕ) (what : CheckWhat) (s : ScenarioLists) (r : Result (Vec ℕ) E) →
-    Spells form front s → IfOk r (λ (out : Vec ℕ). IsDueOf form s bytes number what out.items) →
-    IfOk r (λ (out : Vec ℕ). (t : ScenarioLists) × Spells form front t × IsDueOf form t bytes number what out.items)
+    Spells form front s → IfOk r (λ (out : Vec ℕ). WasDueOf form s bytes number what out.items) →
+    IfOk r (λ (out : Vec ℕ). (t : ScenarioLists) × Spells form front t × WasDueOf form t bytes number what out.items)
 told_behind form front bytes number what s (Ok out) spelled h = (s, spelled, h)
 told_behind form front bytes number what s (Err e) spelled h = tt
 
 pub told_all : {E : Type 0} (form : Form) (text : List ℕ) (number : ℕ) (what : CheckWhat) (place : ℕ) (bytes : List ℕ) (r : Result (Vec ℕ) E) →
-    place_of text ≡ Some place → bytes ≡ drop place text → IfOk r (λ (out : Vec ℕ). (s : ScenarioLists) × Spells form (take place text) s × IsDueOf form s bytes
-    number what out.items) → IfOk r (λ (out : Vec ℕ). IsDue form text number what out.items)
+    place_of text ≡ Some place → bytes ≡ drop place text → IfOk r (λ (out : Vec ℕ). (s : ScenarioLists) × Spells form (take place text) s × WasDueOf form s bytes
+    number what out.items) → IfOk r (λ (out : Vec ℕ). WasDue form text number what out.items)
 told_all form text number what place bytes (Ok out) at behind h =
-    is_due form text number what out.items place at (subst (λ (b : List ℕ). (s : ScenarioLists) × Spells form (take place text) s × IsDueOf form s b number what
+    is_due form text number what out.items place at (subst (λ (b : List ℕ). (s : ScenarioLists) × Spells form (take place text) s × WasDueOf form s b number what
     out.items) behind h)
 told_all form text number what place bytes (Err e) at behind h = tt
 

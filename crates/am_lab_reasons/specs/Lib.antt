@@ -1,4 +1,5 @@
 pub mod Touches
+pub mod Whereabouts
 pub mod Packets
 pub mod Receipts
 pub mod Reasons

@@ -23,6 +23,9 @@ use Rattle.am_office_text.specs.Words.{line, serial}
 use Rattle.am_lemmas.specs.Numbered.{numbered}
 use Rattle.am_lab_reasons.specs.Packets.{packet_line}
 use Rattle.am_lab_reasons.specs.Touches.{touches}
+use Rattle.am_lab_reasons.specs.Whereabouts.{where_is}
+use Rattle.am_lab_reasons.specs.declared.whereabouts.Whereabouts.{Whereabouts}
+use Rattle.am_lab_reasons.specs.declared.whereabouts.Whereabouts.TheVariants as Places
 
 -- an entry with the number of its line, and what became of the packet that it emits
 abbrev pub entry_lines : List PlanLine → List Entry → ℕ → Entry → List ℕ
@@ -41,24 +44,31 @@ cause_text Causes.BadHandler = codes "returned: its destination has no such hand
 cause_text Causes.QueueFull = codes "returned: its destination had no room, as often as it may bounce\n"
 cause_text Causes.NoRequest = codes "returned: its destination awaits no reply to such a request\n"
 
-unfoldable pub fate_text : Fate → List ℕ
-fate_text Fates.Ran = codes "ran: a poll at its destination ran it\n"
-fate_text (Fates.Returned cause) = cause_text cause
-fate_text Fates.Unknown = codes "unknown: its last try timed out with no answer, and no poll ran it\n"
-fate_text Fates.UnknownButRan = codes "unknown-but-ran: its last try timed out with no answer, and a poll ran it\n"
-fate_text Fates.Pending = codes "pending: nothing came of it before the end of the journal\n"
+-- where a message is of which nothing came
+unfoldable pub place_text : Whereabouts → List ℕ
+place_text Places.Waiting = codes "pending: it waits to be sent\n"
+place_text Places.Underway = codes "pending: it was sent, and no answer has come\n"
+place_text Places.PutBack = codes "pending: it was put back, to be sent again\n"
+place_text Places.Put = codes "pending: it was put at its destination, and no poll ran it\n"
+
+unfoldable pub fate_text : Whereabouts → Fate → List ℕ
+fate_text place Fates.Ran = codes "ran: a poll at its destination ran it\n"
+fate_text place (Fates.Returned cause) = cause_text cause
+fate_text place Fates.Unknown = codes "unknown: its last try timed out with no answer, and no poll ran it\n"
+fate_text place Fates.UnknownButRan = codes "unknown-but-ran: its last try timed out with no answer, and a poll ran it\n"
+fate_text place Fates.Pending = place_text place
 
 -- what became of a message at the end, if an entry accepts it
-abbrev pub end_text : Option Fate → List ℕ
-end_text None = codes "was never accepted\n"
-end_text (Some fate) = fate_text fate
+abbrev pub end_text : Whereabouts → Option Fate → List ℕ
+end_text place None = codes "was never accepted\n"
+end_text place (Some fate) = fate_text place fate
 
-abbrev pub ending : Serial → Option Fate → List ℕ
-ending s fate = codes "message " ++ serial s ++ codes " " ++ end_text fate
+abbrev pub ending : Serial → Whereabouts → Option Fate → List ℕ
+ending s place fate = codes "message " ++ serial s ++ codes " " ++ end_text place fate
 
--- the lines of the report that touch a message, of which the journal's first is the third, and its fate
+-- the lines of the report that touch a message, of which the journal's first is the third, and its fate; of a pending one where it is
 abbrev pub reasons : List PlanLine → List Entry → Serial → List ℕ
-reasons plan journal s = numbered (touching_lines plan journal s) 3 journal ++ ending s (fate journal s)
+reasons plan journal s = numbered (touching_lines plan journal s) 3 journal ++ ending s (where_is journal s) (fate journal s)
 
 -- What is told of a message of the report of a scenario.
 pub record TellsOf (form : Form) (scenario : ScenarioLists) (bytes : List ℕ) (s : Serial) (out : List ℕ) : Type 0 where
@@ -69,7 +79,7 @@ pub record TellsOf (form : Form) (scenario : ScenarioLists) (bytes : List ℕ) (
   pub text : out ≡ reasons scenario.plan journal s
 
 -- What is told of a message of the report in a text: the report is that of a journal that follows the scenario in front of it.
-pub record Tells (form : Form) (text : List ℕ) (s : Serial) (out : List ℕ) : Type 0 where
+pub record TellsReasons (form : Form) (text : List ℕ) (s : Serial) (out : List ℕ) : Type 0 where
   pub place : ℕ
   pub place' : place_of text ≡ Some place
   pub scenario : ScenarioLists

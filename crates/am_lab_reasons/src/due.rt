@@ -3,7 +3,7 @@
 
 ghost use Rattle.am_check.specs.Verdict.{AnswersParts, Checks, StopsReport};
 ghost use Rattle.am_check.specs.declared.faults.CheckStop.TheVariants as Stops;
-ghost use Rattle.am_lab_reasons.specs.Due.Due.{HasPlace, IsDue, IsDueOf, MightCome};
+ghost use Rattle.am_lab_reasons.specs.Due.Due.{IsBehindJournal, WasDue, WasDueOf, MightCome};
 ghost use Rattle.am_scenario.specs.Laws.{Spells};
 ghost use Rattle.am_scenario_types.specs.Lawful.{IsLawful, IsOfForm};
 ghost use Rattle.am_scenario_types.specs.Lists.{ScenarioLists};
@@ -30,7 +30,7 @@ fn might_come(
 ) -> Result<Vec<u8>, NoMemory>
     requires lawful { IsLawful scenario.now }
     requires of_form { IsOfForm form scenario.now }
-    requires place { HasPlace form scenario.now bytes.now line }
+    requires place { IsBehindJournal form scenario.now bytes.now line }
     ensures { IfOk result (λ out. MightCome form scenario.now bytes.now line out.items) }
 {
     match form {
@@ -52,7 +52,7 @@ fn due_of(
     requires of_form { IsOfForm form scenario.now }
     requires few { length bytes.now < 2 ^ 31 }
     requires stopped { StopsReport form scenario.now bytes.now (Stops.Fault line what) }
-    ensures { IfOk result (λ out. IsDueOf form scenario.now bytes.now line what out.items) }
+    ensures { IfOk result (λ out. WasDueOf form scenario.now bytes.now line what out.items) }
 {
     match what {
         CheckWhat::Form => Ok(Vec::new(alloc)),
@@ -74,7 +74,7 @@ fn due_behind(
 ) -> Result<Vec<u8>, NoMemory>
     requires few { length bytes.now < 2 ^ 31 }
     requires stopped { AnswersParts form front.now bytes.now (Err (Stops.Fault line what)) }
-    ensures { IfOk result (λ out. (s : ScenarioLists) × Spells form front.now s × IsDueOf form s bytes.now line what out.items) }
+    ensures { IfOk result (λ out. (s : ScenarioLists) × Spells form front.now s × WasDueOf form s bytes.now line what out.items) }
 {
     match read(alloc, form, front) {
         Ok(scenario) => due_of(alloc, form, &scenario, bytes, line, what),
@@ -97,7 +97,7 @@ pub fn due(
 ) -> Result<Vec<u8>, NoMemory>
     requires few { length text.now < 2 ^ 31 }
     requires stopped { Checks form text.now (Err (Stops.Fault line what)) }
-    ensures { IfOk result (λ out. IsDue form text.now line what out.items) }
+    ensures { IfOk result (λ out. WasDue form text.now line what out.items) }
 {
     match place_of(text) {
         Some(place) => due_behind(alloc, form, &text[..place], &text[place..], line, what),

@@ -5,7 +5,7 @@
 ghost use Rattle.am_check.specs.Declares as declarations;
 ghost use Rattle.am_check.specs.Exact.{IsChecked};
 ghost use Rattle.am_check.specs.Verdict.{IsReportOf};
-ghost use Rattle.am_lab_reasons.specs.Reasons.{IsDeclared, Tells, TellsOf, reasons};
+ghost use Rattle.am_lab_reasons.specs.Reasons.{IsDeclared, TellsReasons, TellsOf, reasons};
 ghost use Rattle.am_scenario_types.specs.Lawful.{IsLawful};
 ghost use Rattle.am_scenario_types.specs.declared.parts.Form.{Form as Kind};
 ghost use Rattle.std.specs.Prelude.{◌≡◌, ◌<◌, ◌^◌, IfOk, length};
@@ -18,6 +18,7 @@ pub mod refusals;
 pub mod stops;
 mod told;
 mod touches;
+mod whereabouts;
 
 use crate::journal::journal_of;
 pub use crate::receipts::TracedJournal;
@@ -69,7 +70,7 @@ fn reasons_of(
 pub fn why(alloc: Global, form: Form, text: &[u8], serial: Serial) -> Result<Vec<u8>, NoMemory>
     requires few { length text.now < 2 ^ 31 }
     requires checked { IsChecked form text.now }
-    ensures { IfOk result (λ out. Tells form text.now serial out.items) }
+    ensures { IfOk result (λ out. TellsReasons form text.now serial out.items) }
 {
     let Some(place) = place_of(text) else {
         return Err(NoMemory);

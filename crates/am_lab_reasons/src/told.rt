@@ -1,12 +1,13 @@
 //! What became of a message, and why.
 
-ghost use Rattle.am_lab_reasons.specs.Reasons.{cause_text, end_text, ending, entry_lines, fate_text, reasons, touching_lines};
+ghost use Rattle.am_lab_reasons.specs.Reasons.{cause_text, end_text, ending, entry_lines, fate_text, place_text, reasons, touching_lines};
 ghost use Rattle.am_lemmas.specs.Numbered.{numbered};
 ghost use Rattle.std.specs.Prelude.{◌≡◌, ◌<◌, ◌^◌, ◌++◌, OnOk, length};
 
 use crate::packets::put_packet;
 use crate::receipts::TracedJournal;
 use crate::touches::touches;
+use crate::whereabouts::{Whereabouts, where_is};
 use am_iface::emitted_of;
 use am_names::{Cause, NoMemory, Serial};
 use am_office_entries::{Entry, Fate, fate};
@@ -91,9 +92,21 @@ fn cause_text(cause: Cause) -> &'static str
     }
 }
 
+#[tactic(auto, unfolding(crate::specs::Reasons::place_text))]
+fn place_text(place: Whereabouts) -> &'static str
+    ensures { result.now ≡ place_text place }
+{
+    match place {
+        Whereabouts::Waiting => "pending: it waits to be sent\n",
+        Whereabouts::Underway => "pending: it was sent, and no answer has come\n",
+        Whereabouts::PutBack => "pending: it was put back, to be sent again\n",
+        Whereabouts::Put => "pending: it was put at its destination, and no poll ran it\n",
+    }
+}
+
 #[tactic(auto, unfolding(crate::specs::Reasons::fate_text))]
-fn fate_text(fate: Fate) -> &'static str
-    ensures { result.now ≡ fate_text fate }
+fn fate_text(place: Whereabouts, fate: Fate) -> &'static str
+    ensures { result.now ≡ fate_text place fate }
 {
     match fate {
         Fate::Ran => "ran: a poll at its destination ran it\n",
@@ -102,28 +115,33 @@ fn fate_text(fate: Fate) -> &'static str
         Fate::UnknownButRan => {
             "unknown-but-ran: its last try timed out with no answer, and a poll ran it\n"
         }
-        Fate::Pending => "pending: nothing came of it before the end of the journal\n",
+        Fate::Pending => place_text(place),
     }
 }
 
-fn end_text(fate: Option<Fate>) -> &'static str
-    ensures { result.now ≡ end_text fate }
+fn end_text(place: Whereabouts, fate: Option<Fate>) -> &'static str
+    ensures { result.now ≡ end_text place fate }
 {
     match fate {
-        Some(fate) => fate_text(fate),
+        Some(fate) => fate_text(place, fate),
         None => "was never accepted\n",
     }
 }
 
 // Appends what became of the message at the end.
 #[tactic(auto, using(std::proofs::Common::append_assoc))]
-fn put_ending(out: &mut Vec<u8>, serial: Serial, fate: Option<Fate>) -> Result<(), AllocError>
-    ensures { OnOk result (out.new.items ≡ out.old.items ++ ending serial fate) }
+fn put_ending(
+    out: &mut Vec<u8>,
+    serial: Serial,
+    place: Whereabouts,
+    fate: Option<Fate>,
+) -> Result<(), AllocError>
+    ensures { OnOk result (out.new.items ≡ out.old.items ++ ending serial place fate) }
 {
     put_word(out, Text("message "))?;
     put_word(out, LinePiece::Serial(serial))?;
     put_word(out, Text(" "))?;
-    put_word(out, Text(end_text(fate)))
+    put_word(out, Text(end_text(place, fate)))
 }
 
 /// Appends the lines of a journal that touch a message, and its fate.
@@ -138,6 +156,7 @@ pub(crate) fn put_reasons(
     ensures { OnOk result (out.new.items ≡ out.old.items ++ reasons plan.now journal.now serial) }
 {
     put_touched(out, plan, journal, journal.entries(), serial)?;
-    put_ending(out, serial, fate(journal.journal(), serial))?;
+    let place = where_is(journal.entries(), serial);
+    put_ending(out, serial, place, fate(journal.journal(), serial))?;
     Ok(())
 }

@@ -3,3 +3,4 @@ pub mod Texts
 pub mod Printed
 pub mod FromTheFront
 pub mod Finding
+pub mod Trying

@@ -1,3 +1,4 @@
+pub mod Trials
 pub mod Schedules
 pub mod Told
 pub mod Distinct

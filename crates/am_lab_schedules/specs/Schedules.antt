@@ -3,6 +3,7 @@ use Rattle.std.specs.Prelude.{◌≡◌, ℕ, ◌-◌, Option, Some, None, List,
 use Rattle.std.specs.List.{range_with_len}
 use Rattle.am_cluster.specs.Runs.{IsRunCutOff}
 use Rattle.am_lab_schedules.specs.Outcomes.Outcomes.{outcomes}
+use Rattle.am_lab_schedules.specs.Trials.{tried}
 use Rattle.am_lab_schedules.specs.declared.outcomes.runs.SeedRun.{SeedRun}
 use Rattle.am_main_lines.specs.Lines.{Answer, refusal}
 use Rattle.am_main_run.specs.Runs.{IsRunOf}
@@ -16,25 +17,25 @@ abbrev pub IsMadeBy : ScenarioLists → Option Part → List Entry → Type 0
 IsMadeBy s None journal = IsRunOf s journal
 IsMadeBy s (Some part) journal = IsRunCutOff s part journal
 
--- a run that `run` may make of the scenario
-abbrev pub IsMade : ScenarioLists → SeedRun → Type 0
-IsMade s run = IsMadeBy s run.full run.journal
+-- a run that `run` may make of the scenario that its seed is tried with
+abbrev pub IsMade : (faults : Option ℕ) → ScenarioLists → SeedRun → Type 0
+IsMade faults s run = IsMadeBy (tried faults run.seed s) run.full run.journal
 
 abbrev pub seeds_of : List SeedRun → List ℕ
 seeds_of runs = map (λ (run : SeedRun). run.seed) runs
 
 -- one run of the scenario for each seed from one up to another, which isn't among them
-pub record AreRunsOf (s : ScenarioLists) (from to : ℕ) (runs : List SeedRun) : Type 0 where
+pub record AreRunsOf (faults : Option ℕ) (s : ScenarioLists) (from to : ℕ) (runs : List SeedRun) : Type 0 where
   pub seeds : seeds_of runs ≡ range_with_len from (to - from)
-  pub made : All (IsMade s) runs
+  pub made : All (IsMade faults s) runs
 
 -- THE HEADLINE, for `schedule SEED..SEED2`: what is answered is told of one run for each seed
-pub record TellsRuns (s : ScenarioLists) (from to : ℕ) (answer : Answer) : Type 0 where
+pub record TellsRuns (faults : Option ℕ) (s : ScenarioLists) (from to : ℕ) (answer : Answer) : Type 0 where
   pub runs : List SeedRun
-  pub are : AreRunsOf s from to runs
+  pub are : AreRunsOf faults s from to runs
   pub answer' : answer ≡ outcomes runs
 
 -- the answer to what a text spells, or to its first fault
-abbrev pub SchedulesAnswers : Result ScenarioLists ScenarioFault → (from to : ℕ) → Answer → Type 0
-SchedulesAnswers (Ok s) from to answer = TellsRuns s from to answer
-SchedulesAnswers (Err fault) from to answer = answer ≡ refusal fault
+abbrev pub SchedulesAnswers : (faults : Option ℕ) → Result ScenarioLists ScenarioFault → (from to : ℕ) → Answer → Type 0
+SchedulesAnswers faults (Ok s) from to answer = TellsRuns faults s from to answer
+SchedulesAnswers faults (Err fault) from to answer = answer ≡ refusal fault

@@ -1,16 +1,18 @@
 //! The least seed by which a scenario's report has a line that begins with some words, or has none.
 
-ghost use Rattle.am_lab_schedules.specs.Finds.{FindAnswers, FindsNone, FindsSeed, IsRunThat, NoneIsWanted, found_seed, is_wanted, no_such_line, no_such_seed, range_text};
+ghost use Rattle.am_lab_schedules.specs.Finds.{FindAnswers, FindsNone, FindsSeed, IsPassed, IsRunThat, NoneIsWanted, found_seed, is_wanted, no_such_line, no_such_seed, range_text, scenario_before};
+ghost use Rattle.am_lab_schedules.specs.Trials.{StandsFor, tried};
 ghost use Rattle.am_main_lines.specs.Lines.{answer_in};
 ghost use Rattle.am_scenario.specs.Grammar.{grammar};
-ghost use Rattle.am_scenario_types.specs.Lawful.{IsLawful};
+ghost use Rattle.am_scenario_types.specs.Lawful.{IsLawful, IsOfForm};
 ghost use Rattle.am_scenario_types.specs.declared.parts.Form.TheVariants as Forms;
-ghost use Rattle.am_scenario_types.specs.declared.parts.Network.TheVariants as Networks;
 ghost use Rattle.std.specs.Prelude.{◌≡◌, ◌<◌, ◌≤◌, ◌⊎◌, ◌++◌, IfNone, IfOk, IfSome, OnOk, true};
 
 use crate::beginnings::has_line_with;
-use crate::one_seed::scenario_output;
+use crate::one_seed::trial_output;
+use am_lab_scenarios::spelling::scenario_text;
 use am_main_lines::{Output, fault_output};
+use am_names::NoMemory;
 use am_office_text::LinePiece::{Number, Text};
 use am_office_text::{put_end, put_line, put_word};
 use am_scenario::{Form, ReadFault, Scenario, read};
@@ -42,44 +44,100 @@ struct Found {
     of_run: Output,
 }
 
-// The least seed of the range whose report is looked for.
+// What is answered of this seed's run, where it is looked for. The scenario that the seed is tried with takes the scenario's place.
+fn wanted_run(
+    alloc: Global,
+    scenario: &mut Scenario,
+    faults: Option<u8>,
+    seed: u64,
+    wanted: Wanted,
+    given: &[u8],
+) -> Result<Option<Output>, AllocError>
+    requires percent { IfSome faults (λ percent. percent ≤ 100) }
+    requires lawful { IsLawful scenario.old }
+    requires of_form { IsOfForm Forms.Run scenario.old }
+    ensures exact { OnOk result (scenario.new ≡ tried faults seed scenario.old) }
+    ensures stands { OnOk result (StandsFor faults scenario.old scenario.new) }
+    ensures found { IfOk result (λ found. IfSome found (λ output. IsRunThat (tried faults seed scenario.old) wanted given.now true (answer_in output))) }
+    ensures passed { IfOk result (λ found. IfNone found (IsPassed faults scenario.old wanted given.now seed)) }
+{
+    let of_run = trial_output(alloc, scenario, seed, faults)?;
+    if is_wanted(wanted, given, &of_run.text) {
+        Ok(Some(of_run))
+    } else {
+        Ok(None)
+    }
+}
+
+// The least seed of the range whose report is looked for. The scenario that it is tried with takes the scenario's place.
 fn find_seed(
     alloc: Global,
-    scenario: &Scenario,
+    scenario: &mut Scenario,
+    faults: Option<u8>,
     wanted: Wanted,
     given: &[u8],
     from: u64,
     to: u64,
 ) -> Result<Option<Found>, AllocError>
-    requires lawful { IsLawful scenario.now }
-    requires packet { scenario.now.network ≡ Networks.Packet }
+    requires percent { IfSome faults (λ percent. percent ≤ 100) }
+    requires lawful { IsLawful scenario.old }
+    requires of_form { IsOfForm Forms.Run scenario.old }
     requires order { from ≤ to }
     ensures low { IfOk result (λ found. IfSome found (λ f. from ≤ f.seed)) }
     ensures high { IfOk result (λ found. IfSome found (λ f. f.seed < to)) }
-    ensures before { IfOk result (λ found. IfSome found (λ f. NoneIsWanted scenario.now wanted given.now from f.seed)) }
-    ensures found { IfOk result (λ found. IfSome found (λ f. IsRunThat scenario.now wanted given.now true (answer_in f.of_run))) }
-    ensures none { IfOk result (λ found. IfNone found (NoneIsWanted scenario.now wanted given.now from to)) }
+    ensures before { IfOk result (λ found. IfSome found (λ f. NoneIsWanted faults scenario.old wanted given.now from f.seed)) }
+    ensures found { IfOk result (λ found. IfSome found (λ f. IsRunThat (tried faults f.seed scenario.old) wanted given.now true (answer_in f.of_run))) }
+    ensures scenario { IfOk result (λ found. IfSome found (λ f. scenario.new ≡ tried faults f.seed scenario.old)) }
+    ensures stands { OnOk result (StandsFor faults scenario.old scenario.new) }
+    ensures none { IfOk result (λ found. IfNone found (NoneIsWanted faults scenario.old wanted given.now from to)) }
 {
     for seed in from..to {
-        let of_run = scenario_output(alloc, scenario, seed)?;
-        if is_wanted(wanted, given, &of_run.text) {
+        if let Some(of_run) = wanted_run(alloc, scenario, faults, seed, wanted, given)? {
             return Ok(Some(Found { seed, of_run }));
         }
     }
     Ok(None)
 }
 
-// What is printed of the seed that was found.
-fn found_output(alloc: Global, found: Found) -> Result<Output, AllocError>
-    ensures { IfOk result (λ output. answer_in output ≡ found_seed found.seed (answer_in found.of_run)) }
+// The text of a scenario whose plan was drawn, which stands in front of its report.
+fn scenario_before(
+    alloc: Global,
+    faults: Option<u8>,
+    scenario: &Scenario,
+) -> Result<Vec<u8>, NoMemory>
+    ensures { IfOk result (λ text. text.items ≡ scenario_before faults scenario.now) }
+{
+    match faults {
+        Some(_) => scenario_text(alloc, scenario),
+        None => Ok(Vec::new(alloc)),
+    }
+}
+
+// What is printed of the seed that was found, behind which this text stands.
+fn found_output(alloc: Global, found: Found, scenario: &[u8]) -> Result<Output, AllocError>
+    ensures { IfOk result (λ output. answer_in output ≡ found_seed found.seed scenario.now (answer_in found.of_run)) }
 {
     let mut text = Vec::new(alloc);
     put_line(&mut text, "seed", &[Number(found.seed)])?;
+    text.extend_from_slice(scenario)?;
     text.extend_from_slice(&found.of_run.text)?;
     Ok(Output {
         status: found.of_run.status,
         text,
     })
+}
+
+// The same with the scenario that the seed was tried with.
+fn found_with_scenario(
+    alloc: Global,
+    faults: Option<u8>,
+    scenario: &Scenario,
+    found: Found,
+) -> Result<Output, NoMemory>
+    ensures { IfOk result (λ output. answer_in output ≡ found_seed found.seed (scenario_before faults scenario.now) (answer_in found.of_run)) }
+{
+    let before = scenario_before(alloc, faults, scenario)?;
+    Ok(found_output(alloc, found, &before)?)
 }
 
 // Appends a range of seeds.
@@ -112,45 +170,70 @@ fn none_output(alloc: Global, from: u64, to: u64) -> Result<Output, AllocError>
 }
 
 // What is printed of a scenario.
-#[tactic(auto, using(crate::proofs::Finding::is_found, crate::proofs::Finding::is_missed))]
 fn search_output(
     alloc: Global,
-    scenario: &Scenario,
+    scenario: &mut Scenario,
+    faults: Option<u8>,
     wanted: Wanted,
     given: &[u8],
     from: u64,
     to: u64,
-) -> Result<Output, AllocError>
-    requires lawful { IsLawful scenario.now }
-    requires packet { scenario.now.network ≡ Networks.Packet }
+) -> Result<Output, NoMemory>
+    requires percent { IfSome faults (λ percent. percent ≤ 100) }
+    requires lawful { IsLawful scenario.old }
+    requires of_form { IsOfForm Forms.Run scenario.old }
     requires order { from ≤ to }
-    ensures { IfOk result (λ output. FindsSeed scenario.now wanted given.now from to (answer_in output) ⊎ FindsNone scenario.now wanted given.now from to (answer_in output)) }
+    ensures { IfOk result (λ output. FindsSeed faults scenario.old wanted given.now from to (answer_in output) ⊎ FindsNone faults scenario.old wanted given.now from to (answer_in output)) }
 {
-    match find_seed(alloc, scenario, wanted, given, from, to)? {
-        Some(found) => found_output(alloc, found),
-        None => none_output(alloc, from, to),
+    match find_seed(alloc, scenario, faults, wanted, given, from, to)? {
+        Some(found) => found_with_scenario(alloc, faults, scenario, found),
+        None => Ok(none_output(alloc, from, to)?),
     }
+}
+
+// The same of a scenario that is of no use behind it.
+fn searched_output(
+    alloc: Global,
+    scenario: Scenario,
+    faults: Option<u8>,
+    wanted: Wanted,
+    given: &[u8],
+    from: u64,
+    to: u64,
+) -> Result<Output, NoMemory>
+    requires percent { IfSome faults (λ percent. percent ≤ 100) }
+    requires lawful { IsLawful scenario }
+    requires of_form { IsOfForm Forms.Run scenario }
+    requires order { from ≤ to }
+    ensures { IfOk result (λ output. FindsSeed faults scenario wanted given.now from to (answer_in output) ⊎ FindsNone faults scenario wanted given.now from to (answer_in output)) }
+{
+    let mut drawn = scenario;
+    search_output(alloc, &mut drawn, faults, wanted, given, from, to)
 }
 
 /// What `find` prints of a text, some words and the seeds from one up to another, which isn't among them: `seed N` and behind it what
 /// `schedule N` prints, with its status, where N is the least seed whose report has a line that begins with these words, or, as `wanted`
-/// says, has none; `no such seed in A..B` with status 12; or the first fault of the text. A report behind the line of a full log is one
-/// too, and that line is among its lines. Words are whole words, as in `begins_with_words`. There is a run of the scenario for each seed
-/// up to the one that is found. One report is kept at a time, and `AllocError` comes only for want of memory.
+/// says, has none; `no such seed in A..B` with status 12; or the first fault of the text. Where `faults` says of how many packets in a
+/// hundred, 0 to 100, each seed draws the plan too, and the scenario with that plan stands between `seed N` and the report. A report
+/// behind the line of a full log is one too, and that line is among its lines; the scenario's lines aren't. Words are whole words, as in
+/// `begins_with_words`. There is a run for each seed up to the one that is found. One report is kept at a time, and `NoMemory` comes only
+/// for want of memory.
 pub fn find_output(
     alloc: Global,
     bytes: &[u8],
+    faults: Option<u8>,
     from: u64,
     to: u64,
     given: &[u8],
     wanted: Wanted,
-) -> Result<Output, AllocError>
-    requires { from ≤ to }
-    ensures { IfOk result (λ output. FindAnswers (grammar Forms.Run bytes.now) wanted given.now from to (answer_in output)) }
+) -> Result<Output, NoMemory>
+    requires percent { IfSome faults (λ percent. percent ≤ 100) }
+    requires order { from ≤ to }
+    ensures { IfOk result (λ output. FindAnswers faults (grammar Forms.Run bytes.now) wanted given.now from to (answer_in output)) }
 {
     match read(alloc, Form::Run, bytes) {
-        Ok(scenario) => search_output(alloc, &scenario, wanted, given, from, to),
-        Err(ReadFault::Refused(fault)) => fault_output(alloc, fault),
-        Err(ReadFault::NoMemory) => Err(AllocError),
+        Ok(scenario) => searched_output(alloc, scenario, faults, wanted, given, from, to),
+        Err(ReadFault::Refused(fault)) => Ok(fault_output(alloc, fault)?),
+        Err(ReadFault::NoMemory) => Err(NoMemory),
     }
 }

@@ -2,5 +2,5 @@
 
 mod runs;
 
-pub(crate) use crate::one_seed::runs::scenario_output;
-pub use crate::one_seed::runs::schedule_output;
+pub(crate) use crate::one_seed::runs::trial_output;
+pub use crate::one_seed::runs::{schedule_output, seed_output};

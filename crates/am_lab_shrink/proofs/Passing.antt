@@ -4,7 +4,7 @@ use Rattle.std.proofs.lemmas.Bool.{cases_lt}
 use Rattle.std.specs.List.{remove, remove_range}
 use Rattle.am_lab_shrink.specs.declared.reports.Making.{Making}
 use Rattle.am_lab_shrink.specs.Lines.{IsSubsequence, text_of}
-use Rattle.am_lab_shrink.specs.Reports.{Tells}
+use Rattle.am_lab_shrink.specs.Reports.{TellsWhether}
 use Rattle.am_lab_shrink.specs.Steps.{HaveLine, IsLeastFrom, IsPassed, IsTried, LackLine, Shrinks}
 use Rattle.am_lab_shrink.proofs.Chosen.{are_all, length_without, of_some, without_part}
 

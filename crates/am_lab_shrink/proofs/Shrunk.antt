@@ -4,7 +4,7 @@ use Rattle.std.specs.List.{remove}
 use Rattle.am_lexer.specs.Text.{lines_of}
 use Rattle.am_lab_shrink.specs.declared.reports.Making.{Making}
 use Rattle.am_lab_shrink.specs.Lines.{IsSubsequence, text_of}
-use Rattle.am_lab_shrink.specs.Reports.{Answers, IsOnly, Tells, shows}
+use Rattle.am_lab_shrink.specs.Reports.{Answers, IsOnly, TellsWhether, shows}
 use Rattle.am_lab_shrink.specs.Shrinks.{IsShrunk, ShrinksFew}
 use Rattle.am_lab_shrink.specs.Steps.{HaveLine, IsLeastText}
 use Rattle.am_lab_shrink.proofs.Chosen.{are_all}
@@ -32,11 +32,11 @@ is_shrunk making words text shrunk lines are t =
     let same : lines_of shrunk ≡ t.kept = ap lines_of t.text' ∙ spelled t.kept text chosen in
     record {
       lines = subst (λ (ls : List (List ℕ)). IsSubsequence ls (lines_of text)) (sym same) chosen;
-      shows' = subst (λ (out : List ℕ). Tells making words out true) (sym t.text') t.shrinks.have;
+      shows' = subst (λ (out : List ℕ). TellsWhether making words out true) (sym t.text') t.shrinks.have;
       least = λ place below.
           let within : place < length t.kept = subst (λ (ls : List (List ℕ)). place < length ls) same below in
           let first : 0 ≤ place = omega arith in
-          subst (λ (ls : List (List ℕ)). Tells making words (text_of (remove ls place)) false) (sym same) (t.least place first within);
+          subst (λ (ls : List (List ℕ)). TellsWhether making words (text_of (remove ls place)) false) (sym same) (t.least place first within);
     }
 
 -- the answer is the text that is left

@@ -32,7 +32,7 @@ unfoldable pub shows : List ℕ → Answer → Bool
 shows words answer = (answer.status == 0) && has_line_with words answer.text
 
 -- the answer to the text is a report with such a line, or isn't
-pub record Tells (making : Making) (words text : List ℕ) (shown : Bool) : Type 0 where
+pub record TellsWhether (making : Making) (words text : List ℕ) (shown : Bool) : Type 0 where
   pub answer : Answer
   pub answers : Answers making text answer
   pub only : IsOnly making text answer

@@ -2,7 +2,7 @@
 use Rattle.std.specs.Prelude.{◌≡◌, ◌≢◌, ◌⊎◌, ℕ, ◌<◌, ◌≤◌, true, false, List, codes, length}
 use Rattle.am_lab_shrink.specs.declared.reports.Making.{Making}
 use Rattle.am_lab_shrink.specs.Lines.{IsSubsequence, without_line}
-use Rattle.am_lab_shrink.specs.Reports.{Answers, IsOnly, Tells, shows}
+use Rattle.am_lab_shrink.specs.Reports.{Answers, IsOnly, TellsWhether, shows}
 use Rattle.am_lexer.specs.Text.{lines_of}
 use Rattle.am_main_lines.specs.Lines.{Answer}
 
@@ -10,8 +10,8 @@ use Rattle.am_main_lines.specs.Lines.{Answer}
 -- and whichever of its lines is left out, the rest has no report with such a line.
 pub record IsShrunk (making : Making) (words text shrunk : List ℕ) : Type 0 where
   pub lines : IsSubsequence (lines_of shrunk) (lines_of text)
-  pub shows' : Tells making words shrunk true
-  pub least : (place : ℕ) → place < length (lines_of shrunk) → Tells making words (without_line place shrunk) false
+  pub shows' : TellsWhether making words shrunk true
+  pub least : (place : ℕ) → place < length (lines_of shrunk) → TellsWhether making words (without_line place shrunk) false
 
 abbrev pub too_many_lines : Answer
 too_many_lines = record { status = 11; text = codes "more than 4096 lines\n" }

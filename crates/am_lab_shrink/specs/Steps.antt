@@ -3,14 +3,14 @@ use Rattle.std.specs.Prelude.{◌≡◌, ◌⊎◌, ℕ, ◌<◌, ◌≤◌, tru
 use Rattle.std.specs.List.{remove_range}
 use Rattle.am_lab_shrink.specs.declared.reports.Making.{Making}
 use Rattle.am_lab_shrink.specs.Lines.{IsSubsequence, text_of}
-use Rattle.am_lab_shrink.specs.Reports.{Tells}
+use Rattle.am_lab_shrink.specs.Reports.{TellsWhether}
 
 -- the report of some lines has a line that begins with the words, or hasn't
 abbrev pub HaveLine : (making : Making) (words : List ℕ) → List (List ℕ) → Type 0
-HaveLine making words lines = Tells making words (text_of lines) true
+HaveLine making words lines = TellsWhether making words (text_of lines) true
 
 abbrev pub LackLine : (making : Making) (words : List ℕ) → List (List ℕ) → Type 0
-LackLine making words lines = Tells making words (text_of lines) false
+LackLine making words lines = TellsWhether making words (text_of lines) false
 
 -- none from this place on can be left out alone
 abbrev pub IsLeastFrom : (making : Making) (words : List ℕ) (from : ℕ) → List (List ℕ) → Type 0

@@ -1,7 +1,7 @@
 //! The report of a text, and whether it has a line that begins with some words.
 
 ghost use Rattle.am_lab_schedules.specs.Beginnings.{has_line_with};
-ghost use Rattle.am_lab_shrink.specs.Reports.{Answers, IsOnly, Tells, shows, without_turns};
+ghost use Rattle.am_lab_shrink.specs.Reports.{Answers, IsOnly, TellsWhether, shows, without_turns};
 ghost use Rattle.am_main_lines.specs.Lines.{answer_in};
 ghost use Rattle.am_main_run.specs.Runs.{IsRunAnswer, RunAnswers};
 ghost use Rattle.am_scenario.specs.Grammar.{grammar};
@@ -94,7 +94,7 @@ pub(crate) fn tells(
     words: &[u8],
     text: &[u8],
 ) -> Result<bool, NoMemory>
-    ensures { IfOk result (λ shown. Tells making words.now text.now shown) }
+    ensures { IfOk result (λ shown. TellsWhether making words.now text.now shown) }
 {
     let output = answer_of(alloc, making, text)?;
     Ok(shows(words, &output))

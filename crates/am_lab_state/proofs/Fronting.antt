@@ -10,7 +10,7 @@ use Rattle.am_office_entries.specs.declared.Entry.{Entry}
 use Rattle.am_scenario_types.specs.Lawful.{IsLawful}
 use Rattle.am_scenario_types.specs.Lists.{ScenarioLists}
 use Rattle.am_scenario_types.specs.declared.parts.Form.{Form}
-use Rattle.am_lab_reasons.specs.Journal.Lines.{AreLines, HasPlace, IsMadeAgain}
+use Rattle.am_lab_reasons.specs.Journal.Lines.{AreLines, IsBehindLines, IsMadeAgain}
 use Rattle.am_lab_reasons.proofs.Reported.{reported}
 use Rattle.am_lab_state.specs.Fronts.{IsFrontOf}
 
@@ -45,7 +45,7 @@ pub front_number : (n : ℕ) (journal : List Entry) → n ≤ length journal →
 front_number n journal within = ap (λ (k : ℕ). k + 3) (sym (length-take-le n journal within))
 
 pub front_place : (form : Form) (s : ScenarioLists) → IsLawful s → (bytes : List ℕ) → length bytes < 2 ^ 31 → (n : ℕ) → IsFrontOf form s bytes n →
-    HasPlace (layout_of s) bytes (n + 3)
+    IsBehindLines (layout_of s) bytes (n + 3)
 front_place form s lawful bytes few n f =
     let t = reported form s lawful bytes few f.report in
     record {

@@ -110,7 +110,7 @@ const SEGMENTS: &str = "am2 1\n\
     t0 serve 0 2\n";
 
 /// The words, a scenario and its report or another text, and the status and the text that are answered.
-pub const TOLD: [(&str, &str, &str, u8, &str); 24] = [
+pub const TOLD: [(&str, &str, &str, u8, &str); 25] = [
     ("am2_lab explain step", PATH, REPORT, 0, "check ok\n"),
     (
         "am2_lab explain step",
@@ -193,7 +193,7 @@ pub const TOLD: [(&str, &str, &str, u8, &str); 24] = [
         REPORT,
         0,
         "line 7 x poll 1 -> ran 0.1 1 sends 1.1\n\
-        message 1.1 pending: nothing came of it before the end of the journal\n",
+        message 1.1 pending: it waits to be sent\n",
     ),
     ("am2_lab why step 9.1", PATH, REPORT, 12, "no endpoint 9\n"),
     (
@@ -248,6 +248,7 @@ pub const TOLD: [(&str, &str, &str, u8, &str); 24] = [
         d0 load 0 0\nd0 load 1 1\ni0 bind 0\ni0 expire 0 0\ni0 receive 0 2\ni0 expire 0 0\nx poll 1\ni0 bind 1\n\
         i0 receive 0 4\ni0 receive 0 5\nx poll 0\nx poll 1\n",
     ),
+    ("am2_lab schedule 0", LOST, "", 0, LOST_REPORT),
     (
         "am2_lab scenario segments",
         SEGMENTS,

@@ -36,6 +36,17 @@ fn a_made_scenario_is_printed(rt: HostRuntime) -> Result<(), Fail> {
     Ok(())
 }
 
+/// A right report is drawn where there is memory.
+#[test]
+fn a_report_is_drawn(rt: HostRuntime) -> Result<(), Fail> {
+    let text = joined(rt.alloc(), PATH, REPORT)?;
+    let answer = answer_to(rt.alloc(), "am2_lab chart step", text)?;
+    assert!(rt; answer.status == 0);
+    assert!(rt; answer.printed.starts_with(b"<svg "));
+    assert!(rt; answer.printed.ends_with(b"</svg>\n"));
+    Ok(())
+}
+
 /// The scenario and its report, in which the byte at this place of the report is another one.
 fn spoiled(alloc: Global, place: usize) -> Result<Vec<u8>, AllocError> {
     let mut text = joined(alloc, PATH, REPORT)?;

@@ -7,11 +7,12 @@ use Rattle.std.proofs.lemmas.Bool.{and_parts, leb-false, leb-true, ltb-false}
 use Rattle.am_names.specs.declared.Serial.{Serial}
 use Rattle.am_scenario_types.specs.declared.parts.Form.{Form}
 use Rattle.am_scenario_types.specs.declared.parts.Form.TheVariants as Forms
-use Rattle.am_lab_words.specs.Ranges.{AreFewSeeds, IsInRange}
-use Rattle.am_lab_words.specs.Words.{are_line_words, asked_for, asks_with, asks_without, chart_half, chart_lines, chart_part, chart_whole, count_of, explain_in, faults_by, faults_in, faults_of, find_of, find_with, find_without, form_of, front_of, is_closed, json_in, line_seeds, lines_by, made_of, make_of, numbers_of, of_command, of_five_words, of_four_words, of_three_words, of_two_words, of_words, points_of, printed_number, range_at, range_of, replay_of, round_of, rounds_in, scenario_in, scenario_of, schedule_in, schedule_of, seed_or_range, seeds_before, seeds_in, seeds_of, serial_of, shrink_by, shrink_form, shrink_in, shrink_of, shrink_plain, shrink_seeded, state_at_end, state_behind, state_between, state_by, state_change, state_line, why_in, why_message}
+use Rattle.am_lab_words.specs.Ranges.{AreFewSeeds, AreTrials, IsInRange, IsPercent}
+use Rattle.am_lab_words.specs.Words.{are_line_words, asked_for, asks_with, asks_without, chart_half, chart_lines, chart_part, chart_whole, count_of, explain_in, faults_in, faults_of, find_of, find_with, find_without, form_of, front_of, is_closed, json_in, line_seeds, line_trials, lines_by, made_of, make_of, numbers_of, of_command, of_five_words, of_four_words, of_three_words, of_two_words, of_words, page_in, percent_by, percent_in, percent_of, points_of, printed_number, range_at, range_of, replay_of, round_of, rounds_in, scenario_in, scenario_of, schedule_by, schedule_drawn, schedule_faulty, schedule_in, schedule_of, seed_or_range, seeds_before, seeds_in, seeds_of, serial_of, shrink_by, shrink_form, shrink_in, shrink_of, shrink_plain, shrink_seeded, state_at_end, state_behind, state_between, state_by, state_change, state_line, trials_behind, trials_drawn, trials_plain, tried_with, why_in, why_message}
 use Rattle.am_lab_words.specs.declared.Asked.{Asked}
 use Rattle.am_lab_words.specs.declared.Asked.TheVariants as Commands
 use Rattle.am_lab_words.specs.declared.Seeds.{Seeds}
+use Rattle.am_lab_words.specs.declared.Trials.{Trials}
 use Rattle.am_lab_words.specs.declared.mistakes.Wrong.{Wrong}
 use Rattle.am_lab_words.specs.declared.mistakes.Wrong.TheVariants as Wrongs
 
@@ -49,15 +50,19 @@ seeds_few from to = by_tests (nat_le to from) (nat_lt 100_000 (to - from)) refl 
         let few = ltb-false 100_000 (to - from) other in
         (omega (arith, some), omega (arith, some, few))
 
-percent_right : (seed percent : ℕ) → IfOk (faults_by seed percent) IsInRange
-unfolding faults_by
-percent_right seed percent = by_test (nat_le percent 100) refl
+percent_few : (percent : ℕ) → IsPercent (percent_by percent)
+unfolding percent_by
+percent_few percent = by_test (nat_le percent 100) refl
   where
-    by_test : (b : Bool) → nat_le percent 100 ≡ b → IfOk (if b then Ok (Commands.Faults seed percent) else Err Wrongs.Faults) IsInRange
+    by_test : (b : Bool) → nat_le percent 100 ≡ b → IsPercent (if b then Some percent else None)
     by_test true is = leb-true percent 100 is
     by_test false is = tt
 
 -- ---- words that stand for numbers
+
+percents : (percent : Option ℕ) → IsPercent (percent_in percent)
+percents None = tt
+percents (Some percent) = percent_few percent
 
 numbers_few : (from to : Option ℕ) → IfOk (numbers_of from to) AreFewSeeds
 numbers_few (Some from) (Some to) = seeds_few from to
@@ -161,21 +166,38 @@ replay_right : (word : List ℕ) → IfOk (replay_of word) IsInRange
 unfolding replay_of
 replay_right word = either _ _ (bytes_eq word (codes "run")) tt tt
 
-seeds_right : (seeds : Result Seeds Wrong) → IfOk seeds AreFewSeeds → IfOk (schedule_in seeds) IsInRange
-seeds_right (Ok seeds) few = few
-seeds_right (Err wrong) few = tt
+seeds_right : (faults : Option ℕ) (seeds : Result Seeds Wrong) → IsPercent faults → IfOk seeds AreFewSeeds → IfOk (schedule_in faults seeds) IsInRange
+seeds_right faults (Ok seeds) percent few = (few, percent)
+seeds_right faults (Err wrong) percent few = tt
 
-seed_right : (word : List ℕ) (seed : Option ℕ) → IfOk (seed_or_range word seed) IsInRange
-seed_right word (Some seed) = tt
-seed_right word None = seeds_right (seeds_in word) (seeds_in_few word)
+seed_right : (faults : Option ℕ) (word : List ℕ) (seed : Option ℕ) → IsPercent faults → IfOk (seed_or_range faults word seed) IsInRange
+seed_right faults word (Some seed) percent = percent
+seed_right faults word None percent = seeds_right faults (seeds_in word) percent (seeds_in_few word)
+
+trial_right : (faults : Option ℕ) (word : List ℕ) → IsPercent faults → IfOk (schedule_by faults word) IsInRange
+unfolding schedule_by
+trial_right faults word percent = seed_right faults word (printed_number word) percent
 
 schedule_right : (word : List ℕ) → IfOk (schedule_of word) IsInRange
 unfolding schedule_of
-schedule_right word = seed_right word (printed_number word)
+schedule_right word = trial_right None word tt
+
+drawn_right : (faults : Option ℕ) (word : List ℕ) → IsPercent faults → IfOk (schedule_drawn faults word) IsInRange
+drawn_right None word percent = tt
+drawn_right (Some percent) word few = trial_right (Some percent) word few
+
+faulty_right : (word option percent : List ℕ) → IfOk (schedule_faulty word option percent) IsInRange
+unfolding schedule_faulty
+faulty_right word option percent =
+    either _ _ (bytes_eq option (codes "--faults")) (drawn_right (percent_of percent) word (percents (printed_number percent))) tt
 
 json_right : (form : Option Form) → IfOk (json_in form) IsInRange
 json_right None = tt
 json_right (Some form) = tt
+
+page_right : (form : Option Form) → IfOk (page_in form) IsInRange
+page_right None = tt
+page_right (Some form) = tt
 
 end_right : (form : Option Form) → IfOk (state_at_end form) IsInRange
 end_right None = tt
@@ -212,28 +234,52 @@ looked_few : (range : List ℕ) (line : List (List ℕ)) → IfOk (line_seeds ra
 unfolding line_seeds
 looked_few range line = before_few (seeds_in range) (are_line_words line) (seeds_in_few range)
 
-with_right : (seeds : Result Seeds Wrong) → IfOk seeds AreFewSeeds → IfOk (asks_with seeds) IsInRange
-with_right (Ok seeds) few = few
+tried_few : (faults : Option ℕ) (seeds : Result Seeds Wrong) → IsPercent faults → IfOk seeds AreFewSeeds → IfOk (tried_with faults seeds) AreTrials
+tried_few faults (Ok seeds) percent few = (few, percent)
+tried_few faults (Err wrong) percent few = tt
+
+plain_few : (range : List ℕ) (line : List (List ℕ)) → IfOk (trials_plain range line) AreTrials
+plain_few range line = tried_few None (line_seeds range line) tt (looked_few range line)
+
+drawn_few : (faults : Option ℕ) (range : List ℕ) (line : List (List ℕ)) → IsPercent faults → IfOk (trials_drawn faults range line) AreTrials
+drawn_few None range line percent = tt
+drawn_few (Some percent) range line few = tried_few (Some percent) (line_seeds range line) few (looked_few range line)
+
+behind_few : (range : List ℕ) (words : List (List ℕ)) → IfOk (trials_behind range words) AreTrials
+behind_few range [] = tt
+behind_few range (percent ∷ line) = drawn_few (percent_of percent) range line (percents (printed_number percent))
+
+trials_few : (range : List ℕ) (words : List (List ℕ)) → IfOk (line_trials range words) AreTrials
+unfolding line_trials
+trials_few range [] = plain_few range []
+trials_few range (word ∷ words) = by_test (bytes_eq word (codes "--faults"))
+  where
+    by_test : (b : Bool) → IfOk (if b then trials_behind range words else trials_plain range (word ∷ words)) AreTrials
+    by_test true = behind_few range words
+    by_test false = plain_few range (word ∷ words)
+
+with_right : (trials : Result Trials Wrong) → IfOk trials AreTrials → IfOk (asks_with trials) IsInRange
+with_right (Ok trials) few = few
 with_right (Err wrong) few = tt
 
-without_right : (seeds : Result Seeds Wrong) → IfOk seeds AreFewSeeds → IfOk (asks_without seeds) IsInRange
-without_right (Ok seeds) few = few
+without_right : (trials : Result Trials Wrong) → IfOk trials AreTrials → IfOk (asks_without trials) IsInRange
+without_right (Ok trials) few = few
 without_right (Err wrong) few = tt
 
 not_right : (words : List (List ℕ)) → IfOk (find_without words) IsInRange
 not_right [] = tt
-not_right (range ∷ line) = without_right (line_seeds range line) (looked_few range line)
+not_right (range ∷ words) = without_right (line_trials range words) (trials_few range words)
 
 find_right : (words : List (List ℕ)) → IfOk (find_of words) IsInRange
 unfolding find_of
 find_right [] = tt
 find_right (word ∷ words) =
-    either _ _ (bytes_eq word (codes "--not")) (not_right words) (with_right (line_seeds word words) (looked_few word words))
+    either _ _ (bytes_eq word (codes "--not")) (not_right words) (with_right (line_trials word words) (trials_few word words))
 
-faults_right : (seed percent : Option ℕ) → IfOk (faults_in seed percent) IsInRange
-faults_right (Some seed) (Some percent) = percent_right seed percent
-faults_right (Some seed) None = tt
-faults_right None percent = tt
+faults_right : (seed percent : Option ℕ) → IsPercent percent → IfOk (faults_in seed percent) IsInRange
+faults_right (Some seed) (Some percent) few = few
+faults_right (Some seed) None few = tt
+faults_right None percent few = tt
 
 plain_right : (form : Form) (line : List (List ℕ)) → IfOk (shrink_plain form line) IsInRange
 plain_right form line = either _ _ (are_line_words line) tt tt
@@ -272,7 +318,8 @@ two_right command word =
     (either _ _ (bytes_eq command (codes "replay")) (replay_right word)
     (either _ _ (bytes_eq command (codes "schedule")) (schedule_right word)
     (either _ _ (bytes_eq command (codes "json")) (json_right (form_of word))
-    (either _ _ (bytes_eq command (codes "state")) (end_right (form_of word)) tt))))))
+    (either _ _ (bytes_eq command (codes "page")) (page_right (form_of word))
+    (either _ _ (bytes_eq command (codes "state")) (end_right (form_of word)) tt)))))))
 
 three_right : (command word other : List ℕ) → IfOk (of_three_words command word other) IsInRange
 unfolding of_three_words
@@ -283,13 +330,14 @@ three_right command word other =
     (either _ _ (bytes_eq command (codes "scenario")) (make_right word other)
     (either _ _ (bytes_eq command (codes "state")) (behind_right (form_of word) other)
     (either _ _ (bytes_eq command (codes "faults"))
-    (faults_right (printed_number word) (printed_number other)) tt)))))
+    (faults_right (printed_number word) (percent_of other) (percents (printed_number other))) tt)))))
 
 four_right : (command word from to : List ℕ) → IfOk (of_four_words command word from to) IsInRange
 unfolding of_four_words
 four_right command word from to =
     either _ _ (bytes_eq command (codes "chart")) (part_right (form_of word) from to)
-    (either _ _ (bytes_eq command (codes "state")) (between_right (form_of word) from to) tt)
+    (either _ _ (bytes_eq command (codes "state")) (between_right (form_of word) from to)
+    (either _ _ (bytes_eq command (codes "schedule")) (faulty_right word from to) tt))
 
 five_right : (command word nodes turns number : List ℕ) → IfOk (of_five_words command word nodes turns number) IsInRange
 unfolding of_five_words

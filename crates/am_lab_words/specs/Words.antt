@@ -11,6 +11,7 @@ use Rattle.am_scenario_types.specs.declared.parts.Form.TheVariants as Forms
 use Rattle.am_lab_words.specs.declared.Asked.{Asked}
 use Rattle.am_lab_words.specs.declared.Asked.TheVariants as Commands
 use Rattle.am_lab_words.specs.declared.Seeds.{Seeds}
+use Rattle.am_lab_words.specs.declared.Trials.{Trials}
 use Rattle.am_lab_words.specs.declared.States.TheVariants as States
 use Rattle.am_lab_words.specs.declared.mistakes.Wrong.{Wrong}
 use Rattle.am_lab_words.specs.declared.mistakes.Wrong.TheVariants as Wrongs
@@ -124,7 +125,7 @@ count_of word nodes turns number =
 unfoldable pub replay_of : List ℕ → Result Asked Wrong
 replay_of word = if bytes_eq word (codes "run") then Ok Commands.Replay else Err Wrongs.Form
 
--- ---- schedule SEED, schedule SEED..SEED2
+-- ---- A..B, as in schedule and find
 
 -- the seeds from one up to another, which isn't among them: 1 to 100,000
 unfoldable pub seeds_of : ℕ → ℕ → Result Seeds Wrong
@@ -160,22 +161,53 @@ range_at word (Some at) = points_of (take at word) (drop (at + 1) word)
 unfoldable pub seeds_in : List ℕ → Result Seeds Wrong
 seeds_in word = range_at word (position (λ byte. byte == 46) word)
 
-abbrev pub schedule_in : Result Seeds Wrong → Result Asked Wrong
-schedule_in (Ok seeds) = Ok (Commands.Schedules seeds)
-schedule_in (Err wrong) = Err wrong
+-- ---- PERCENT, as in faults and behind --faults
 
-abbrev pub seed_or_range : List ℕ → Option ℕ → Result Asked Wrong
-seed_or_range word (Some seed) = Ok (Commands.Schedule seed)
-seed_or_range word None = schedule_in (seeds_in word)
+unfoldable pub percent_by : ℕ → Option ℕ
+percent_by percent = if nat_le percent 100 then Some percent else None
+
+abbrev pub percent_in : Option ℕ → Option ℕ
+percent_in None = None
+percent_in (Some percent) = percent_by percent
+
+abbrev pub percent_of : List ℕ → Option ℕ
+percent_of word = percent_in (printed_number word)
+
+-- ---- schedule SEED, schedule SEED..SEED2, each with --faults PERCENT behind it or without
+
+abbrev pub schedule_in : Option ℕ → Result Seeds Wrong → Result Asked Wrong
+schedule_in faults (Ok seeds) = Ok (Commands.Schedules (record { seeds = seeds; faults = faults }))
+schedule_in faults (Err wrong) = Err wrong
+
+abbrev pub seed_or_range : (faults : Option ℕ) → List ℕ → Option ℕ → Result Asked Wrong
+seed_or_range faults word (Some seed) = Ok (Commands.Schedule seed faults)
+seed_or_range faults word None = schedule_in faults (seeds_in word)
+
+unfoldable pub schedule_by : (faults : Option ℕ) → List ℕ → Result Asked Wrong
+schedule_by faults word = seed_or_range faults word (printed_number word)
 
 unfoldable pub schedule_of : List ℕ → Result Asked Wrong
-schedule_of word = seed_or_range word (printed_number word)
+schedule_of word = schedule_by None word
+
+abbrev pub schedule_drawn : Option ℕ → List ℕ → Result Asked Wrong
+schedule_drawn None word = Err Wrongs.Percent
+schedule_drawn (Some percent) word = schedule_by (Some percent) word
+
+unfoldable pub schedule_faulty : List ℕ → List ℕ → List ℕ → Result Asked Wrong
+schedule_faulty word option percent =
+    if bytes_eq option (codes "--faults") then schedule_drawn (percent_of percent) word else Err Wrongs.Form
 
 -- ---- json FORM
 
 abbrev pub json_in : Option Form → Result Asked Wrong
 json_in None = Err Wrongs.Form
 json_in (Some form) = Ok (Commands.Json form)
+
+-- ---- page FORM
+
+abbrev pub page_in : Option Form → Result Asked Wrong
+page_in None = Err Wrongs.Form
+page_in (Some form) = Ok (Commands.Page form)
 
 -- ---- state FORM, state FORM LINE, state FORM LINE LINE2
 
@@ -214,7 +246,7 @@ unfoldable pub are_line_words : List (List ℕ) → Bool
 are_line_words [] = false
 are_line_words (word ∷ words) = list_all is_line_word (word ∷ words)
 
--- ---- find A..B WORDS.., find --not A..B WORDS..
+-- ---- find A..B WORDS.., find --not A..B WORDS.., each with --faults PERCENT behind the seeds or without
 
 -- the seeds that are looked through, with the words of a line behind them
 abbrev pub seeds_before : Result Seeds Wrong → Bool → Result Seeds Wrong
@@ -225,20 +257,40 @@ seeds_before (Ok seeds) true = Ok seeds
 unfoldable pub line_seeds : List ℕ → List (List ℕ) → Result Seeds Wrong
 line_seeds range line = seeds_before (seeds_in range) (are_line_words line)
 
-abbrev pub asks_with : Result Seeds Wrong → Result Asked Wrong
-asks_with (Ok seeds) = Ok (Commands.Find seeds)
+abbrev pub tried_with : Option ℕ → Result Seeds Wrong → Result Trials Wrong
+tried_with faults (Ok seeds) = Ok (record { seeds = seeds; faults = faults })
+tried_with faults (Err wrong) = Err wrong
+
+abbrev pub trials_plain : List ℕ → List (List ℕ) → Result Trials Wrong
+trials_plain range line = tried_with None (line_seeds range line)
+
+abbrev pub trials_drawn : Option ℕ → List ℕ → List (List ℕ) → Result Trials Wrong
+trials_drawn None range line = Err Wrongs.Percent
+trials_drawn (Some percent) range line = tried_with (Some percent) (line_seeds range line)
+
+abbrev pub trials_behind : List ℕ → List (List ℕ) → Result Trials Wrong
+trials_behind range [] = Err Wrongs.Percent
+trials_behind range (percent ∷ line) = trials_drawn (percent_of percent) range line
+
+unfoldable pub line_trials : List ℕ → List (List ℕ) → Result Trials Wrong
+line_trials range [] = trials_plain range []
+line_trials range (word ∷ words) =
+    if bytes_eq word (codes "--faults") then trials_behind range words else trials_plain range (word ∷ words)
+
+abbrev pub asks_with : Result Trials Wrong → Result Asked Wrong
+asks_with (Ok trials) = Ok (Commands.Find trials)
 asks_with (Err wrong) = Err wrong
 
-abbrev pub asks_without : Result Seeds Wrong → Result Asked Wrong
-asks_without (Ok seeds) = Ok (Commands.FindWithout seeds)
+abbrev pub asks_without : Result Trials Wrong → Result Asked Wrong
+asks_without (Ok trials) = Ok (Commands.FindWithout trials)
 asks_without (Err wrong) = Err wrong
 
 abbrev pub find_with : List ℕ → List (List ℕ) → Result Asked Wrong
-find_with range line = asks_with (line_seeds range line)
+find_with range words = asks_with (line_trials range words)
 
 abbrev pub find_without : List (List ℕ) → Result Asked Wrong
 find_without [] = Err Wrongs.Form
-find_without (range ∷ line) = asks_without (line_seeds range line)
+find_without (range ∷ words) = asks_without (line_trials range words)
 
 unfoldable pub find_of : List (List ℕ) → Result Asked Wrong
 find_of [] = Err Wrongs.Form
@@ -246,15 +298,12 @@ find_of (word ∷ words) = if bytes_eq word (codes "--not") then find_without wo
 
 -- ---- faults SEED PERCENT
 
-unfoldable pub faults_by : ℕ → ℕ → Result Asked Wrong
-faults_by seed percent = if nat_le percent 100 then Ok (Commands.Faults seed percent) else Err Wrongs.Faults
-
 abbrev pub faults_in : Option ℕ → Option ℕ → Result Asked Wrong
-faults_in (Some seed) (Some percent) = faults_by seed percent
+faults_in (Some seed) (Some percent) = Ok (Commands.Faults seed percent)
 faults_in seed percent = Err Wrongs.Faults
 
 abbrev pub faults_of : List ℕ → List ℕ → Result Asked Wrong
-faults_of seed percent = faults_in (printed_number seed) (printed_number percent)
+faults_of seed percent = faults_in (printed_number seed) (percent_of percent)
 
 -- ---- shrink FORM WORDS.., shrink run --seed N WORDS..
 
@@ -292,6 +341,7 @@ of_two_words command word =
     if bytes_eq command (codes "replay") then replay_of word else
     if bytes_eq command (codes "schedule") then schedule_of word else
     if bytes_eq command (codes "json") then json_in (form_of word) else
+    if bytes_eq command (codes "page") then page_in (form_of word) else
     if bytes_eq command (codes "state") then state_at_end (form_of word) else Err Wrongs.Form
 
 unfoldable pub of_three_words : List ℕ → List ℕ → List ℕ → Result Asked Wrong
@@ -306,7 +356,8 @@ of_three_words command word other =
 unfoldable pub of_four_words : List ℕ → List ℕ → List ℕ → List ℕ → Result Asked Wrong
 of_four_words command word from to =
     if bytes_eq command (codes "chart") then chart_part (form_of word) from to else
-    if bytes_eq command (codes "state") then state_between (form_of word) from to else Err Wrongs.Form
+    if bytes_eq command (codes "state") then state_between (form_of word) from to else
+    if bytes_eq command (codes "schedule") then schedule_faulty word from to else Err Wrongs.Form
 
 unfoldable pub of_five_words : List ℕ → List ℕ → List ℕ → List ℕ → List ℕ → Result Asked Wrong
 of_five_words command word nodes turns number =
@@ -331,10 +382,15 @@ unfoldable pub asked_for : List (List ℕ) → Result Asked Wrong
 asked_for [] = Err Wrongs.Form
 asked_for (command ∷ words) = of_command command words
 
+-- how many words `--faults PERCENT` has, where it stands there
+abbrev pub option_words : Option ℕ → ℕ
+option_words None = 0
+option_words (Some percent) = 2
+
 -- how many of these words stand in front of those that a line is to begin with
 abbrev pub words_before : Asked → ℕ
-words_before (Commands.Find seeds) = 2
-words_before (Commands.FindWithout seeds) = 3
+words_before (Commands.Find trials) = 2 + option_words trials.faults
+words_before (Commands.FindWithout trials) = 3 + option_words trials.faults
 words_before (Commands.Shrink form) = 2
 words_before (Commands.ShrinkSeeded seed) = 4
 words_before asked = 0

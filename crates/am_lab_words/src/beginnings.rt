@@ -1,6 +1,6 @@
 //! The words that a line of a report is to begin with.
 
-ghost use Rattle.am_lab_words.specs.Words.{are_line_words, is_line_word, line_words, words_before};
+ghost use Rattle.am_lab_words.specs.Words.{are_line_words, is_line_word, line_words, option_words, words_before};
 ghost use Rattle.std.specs.Global.{Global};
 ghost use Rattle.std.specs.List.{list_all};
 ghost use Rattle.std.specs.Prelude.{◌≡◌, String as Text, drop, map, string_bytes};
@@ -38,13 +38,24 @@ pub(crate) fn are_line_words(words: &[String]) -> bool
     }
 }
 
+// How many words `--faults PERCENT` has, where it stands there.
+fn option_words(faults: Option<u8>) -> usize
+    ensures { result ≡ option_words faults }
+{
+    match faults {
+        Some(_) => 2,
+        None => 0,
+    }
+}
+
 // How many words stand in front of those of the line.
 fn words_before(asked: Asked) -> usize
     ensures { result ≡ words_before asked }
 {
     match asked {
-        Asked::Find(_) | Asked::Shrink(_) => 2,
-        Asked::FindWithout(_) => 3,
+        Asked::Find(trials) => 2 + option_words(trials.faults),
+        Asked::FindWithout(trials) => 3 + option_words(trials.faults),
+        Asked::Shrink(_) => 2,
         Asked::ShrinkSeeded(_) => 4,
         _ => 0,
     }

@@ -15,6 +15,7 @@ mod mistakes;
 mod numbers;
 mod ranges;
 mod reading;
+mod schedule;
 mod shown;
 mod shrink;
 mod state;
@@ -42,6 +43,14 @@ pub struct Seeds {
     pub from: u64,
     /// Above `from`, and at most 100,000 above it.
     pub to: u64,
+}
+
+/// Seeds that are tried, each with the plan that it draws or with the scenario's own.
+#[derive(Clone, Copy)]
+pub struct Trials {
+    pub seeds: Seeds,
+    /// `--faults PERCENT`: of the first packets of each link, about how many in a hundred a drawn plan has: 0 to 100.
+    pub faults: Option<u8>,
 }
 
 /// Which states of a journal the words have.
@@ -91,12 +100,18 @@ pub enum Asked {
     },
     /// `replay run`: the journal of a run's report as a step script.
     Replay,
-    /// `schedule SEED`: the report of a run of the scenario, in which this seed draws whose turn is next.
-    Schedule(u64),
+    /// `schedule SEED`: the report of a run of the scenario, in which this seed draws whose turn is next; with `--faults PERCENT`
+    /// it draws the plan too, 0 to 100 in a hundred.
+    Schedule {
+        seed: u64,
+        faults: Option<u8>,
+    },
     /// `schedule SEED..SEED2`: a line for the run of each of these seeds, and how many distinct journals there were.
-    Schedules(Seeds),
+    Schedules(Trials),
     /// `json step`, `json run`: the journal of a report of a scenario of this form as lines of JSON.
     Json(Form),
+    /// `page step`, `page run`: a page for a browser, with the journal and the picture of a report of a scenario of this form.
+    Page(Form),
     /// `state step`, `state run`, each with `LINE`, with `LINE LINE2` or with neither: states of the journal of a report of a
     /// scenario of this form, or what changed.
     State {
@@ -104,9 +119,9 @@ pub enum Asked {
         states: States,
     },
     /// `find A..B WORDS..`: the report of the least of these seeds that has a line which begins with these words.
-    Find(Seeds),
+    Find(Trials),
     /// `find --not A..B WORDS..`: the report of the least of these seeds that has no such line.
-    FindWithout(Seeds),
+    FindWithout(Trials),
     /// `faults SEED PERCENT`: the scenario of a run with a plan that is drawn from the seed.
     Faults {
         seed: u64,

@@ -37,6 +37,8 @@ pub enum Wrong {
     FindRange,
     /// `find`: there are no words of a line, or one is empty or begins with two dashes.
     FindLine,
+    /// `find`, `schedule`: behind `--faults` stands no number from 0 to 100.
+    Percent,
     /// `faults`: a word is no number that the command takes there.
     Faults,
     /// `shrink`: a seed for steps, or a word that is none.
@@ -89,6 +91,9 @@ impl Wrong {
             }
             Wrong::FindLine => {
                 "WORDS are those that a line of the report begins with, none of them empty or with -- in front; --not stands in front of A..B"
+            }
+            Wrong::Percent => {
+                "PERCENT is a number from 0 to 100, with no zero in front; --faults PERCENT stands behind the seeds"
             }
             Wrong::Faults => {
                 "SEED is a number from 0 to 18446744073709551615 and PERCENT one from 0 to 100, with no zero in front"

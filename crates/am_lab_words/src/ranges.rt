@@ -1,10 +1,10 @@
-//! The seeds that a word of `schedule` names.
+//! The seeds that a word of `schedule` or `find` names.
 
-ghost use Rattle.am_lab_words.specs.Words.{is_closed, numbers_of, points_of, range_of, schedule_of, seeds_in, seeds_of};
+ghost use Rattle.am_lab_words.specs.Words.{is_closed, numbers_of, points_of, range_of, seeds_in, seeds_of};
 ghost use Rattle.std.specs.Prelude.{◌≡◌};
 
 use crate::numbers::printed_number;
-use crate::{Asked, Seeds, Wrong};
+use crate::{Seeds, Wrong};
 use am_lexer::first_dot;
 
 // The seeds from one number up to another.
@@ -74,19 +74,5 @@ pub(crate) fn seeds_in(word: &[u8]) -> Result<Seeds, Wrong>
     match first_dot(word) {
         Some(at) => points_of(&word[..at], &word[at + 1..]),
         None => Err(Wrong::Seed),
-    }
-}
-
-/// What a word of `schedule` asks for: a seed, or a range of seeds.
-#[tactic(auto, unfolding(crate::specs::Words::schedule_of))]
-pub(crate) fn schedule_of(word: &[u8]) -> Result<Asked, Wrong>
-    ensures { result ≡ schedule_of word.now }
-{
-    if let Some(seed) = printed_number(word) {
-        return Ok(Asked::Schedule(seed));
-    }
-    match seeds_in(word) {
-        Ok(seeds) => Ok(Asked::Schedules(seeds)),
-        Err(wrong) => Err(wrong),
     }
 }

@@ -1,14 +1,14 @@
 //! What the words ask for, read by how many there are.
 
 ghost use Rattle.am_lab_words.specs.Ranges.{IsInRange};
-ghost use Rattle.am_lab_words.specs.Words.{asked_for, chart_half, chart_lines, chart_part, chart_whole, count_of, explain_in, front_of, json_in, lines_by, made_of, make_of, of_command, of_five_words, of_four_words, of_three_words, of_two_words, of_words, replay_of, round_of, rounds_in, scenario_in, scenario_of, serial_by, serial_in, serial_of, why_in, why_message};
+ghost use Rattle.am_lab_words.specs.Words.{asked_for, chart_half, chart_lines, chart_part, chart_whole, count_of, explain_in, front_of, json_in, lines_by, made_of, make_of, of_command, of_five_words, of_four_words, of_three_words, of_two_words, of_words, page_in, replay_of, round_of, rounds_in, scenario_in, scenario_of, serial_by, serial_in, serial_of, why_in, why_message};
 ghost use Rattle.std.specs.Prelude.{◌≡◌, IfOk, map, string_bytes};
 
 use crate::faults::faults_of;
 use crate::find::find_of;
 use crate::forms::form_of;
 use crate::numbers::printed_number;
-use crate::ranges::schedule_of;
+use crate::schedule::{schedule_faulty, schedule_of};
 use crate::shrink::shrink_of;
 use crate::state::{state_at_end, state_behind, state_between};
 use crate::{Asked, Lines, Wrong};
@@ -21,6 +21,15 @@ fn json_in(form: Option<Form>) -> Result<Asked, Wrong>
 {
     match form {
         Some(form) => Ok(Asked::Json(form)),
+        None => Err(Wrong::Form),
+    }
+}
+
+fn page_in(form: Option<Form>) -> Result<Asked, Wrong>
+    ensures { result ≡ page_in form }
+{
+    match form {
+        Some(form) => Ok(Asked::Page(form)),
         None => Err(Wrong::Form),
     }
 }
@@ -259,6 +268,7 @@ fn of_two_words(command: &str, word: &str) -> Result<Asked, Wrong>
         "replay" => replay_of(word),
         "schedule" => schedule_of(word.as_bytes()),
         "json" => json_in(form_of(word)),
+        "page" => page_in(form_of(word)),
         "state" => state_at_end(form_of(word)),
         _ => Err(Wrong::Form),
     }
@@ -286,6 +296,7 @@ fn of_four_words(command: &str, word: &str, from: &str, to: &str) -> Result<Aske
     match command {
         "chart" => chart_part(form_of(word), from, to),
         "state" => state_between(form_of(word), from, to),
+        "schedule" => schedule_faulty(word.as_bytes(), from, to),
         _ => Err(Wrong::Form),
     }
 }

@@ -72,12 +72,12 @@ cat examples/run-withheld.am2 examples/run-withheld.out | bin/am2_lab replay run
 const SCHEDULE: Shown = Shown {
     name: "schedule",
     about: "Prints the report of a run whose turns come in an order that a seed draws; of many seeds a line each",
-    usage: "am2_lab schedule <SEED|SEED..SEED2>",
+    usage: "am2_lab schedule <SEED|SEED..SEED2> [--faults <PERCENT>]",
     more: "SEED is a number from 0 to 18446744073709551615; SEED..SEED2 are the seeds from SEED up to SEED2, which isn't among them, at most \
-100000. \
+100000. With --faults each seed draws the plan too, as faults does. \
 Standard input is the scenario of a run, with no report behind it:\n\n  \
 bin/am2_lab schedule 7 < examples/turns-clients.am2\n  \
-bin/am2_lab schedule 0..100 < examples/turns-clients.am2",
+bin/am2_lab schedule 0..100 --faults 20 < examples/turns-clients.am2",
     example: "bin/am2_lab schedule 0..100 < examples/turns-clients.am2",
 };
 
@@ -88,6 +88,15 @@ const JSON: Shown = Shown {
     more: "Standard input is a scenario of this form and, behind it, its report:\n\n  \
 cat examples/first.am2 examples/first.out | bin/am2_lab json step > first.jsonl",
     example: "cat examples/first.am2 examples/first.out | bin/am2_lab json step > first.jsonl",
+};
+
+const PAGE: Shown = Shown {
+    name: "page",
+    about: "Prints a report as one page for a browser: its journal and its picture, to look around in",
+    usage: "am2_lab page <step|run>",
+    more: "Standard input is a scenario of this form and, behind it, its report:\n\n  \
+cat examples/first.am2 examples/first.out | bin/am2_lab page step > first.html",
+    example: "cat examples/first.am2 examples/first.out | bin/am2_lab page step > first.html",
 };
 
 const STATE: Shown = Shown {
@@ -104,12 +113,14 @@ cat examples/first.am2 examples/first.out | bin/am2_lab state step 9 12",
 const FIND: Shown = Shown {
     name: "find",
     about: "Prints the report of the least seed that has a line which begins with the words",
-    usage: "am2_lab find [--not] <A..B> <WORDS>...",
+    usage: "am2_lab find [--not] <A..B> [--faults <PERCENT>] <WORDS>...",
     more: "A..B are the seeds that are tried, from A up to B, which isn't among them: 1 to 100000. WORDS are those that the line begins with; \
-0.* is like 0.1, 0.2 and so on. With --not the report is to have no such line. \
+0.* is like 0.1, 0.2 and so on. With --not the report is to have no such line. With --faults each seed draws the plan too, as faults does, and \
+the scenario with that plan is printed in front of its report. \
 Standard input is the scenario of a run, with no report behind it:\n\n  \
 bin/am2_lab find 0..100 fate 1.* request unknown < examples/turns-clients.am2\n  \
-bin/am2_lab find --not 0..100 totals < examples/turns-clients.am2",
+bin/am2_lab find --not 0..100 totals < examples/turns-clients.am2\n  \
+bin/am2_lab find 0..1000 --faults 50 fate 0.* request unknown-but-ran < examples/turns-clients.am2",
     example: "bin/am2_lab find 0..100 fate 1.* request unknown < examples/turns-clients.am2",
 };
 
@@ -137,11 +148,11 @@ bin/am2_lab shrink run --seed 7 fate 0.* < examples/turns-clients.am2",
 };
 
 const COMMANDS: &[Shown] = &[
-    EXPLAIN, WHY, CHART, SCENARIO, REPLAY, SCHEDULE, JSON, STATE, FIND, FAULTS, SHRINK,
+    EXPLAIN, WHY, CHART, SCENARIO, REPLAY, SCHEDULE, JSON, PAGE, STATE, FIND, FAULTS, SHRINK,
 ];
 
 const INPUT: &str =
-    "explain, why, chart, replay, json and state read a scenario and, behind it, its report from standard input; \
+    "explain, why, chart, page, replay, json and state read a scenario and, behind it, its report from standard input; \
     scenario, schedule, find, faults and shrink read a scenario alone:\n\n  \
     cat examples/first.am2 examples/first.out | bin/am2_lab why step 0.1\n  \
     bin/am2_lab scenario run < examples/run-withheld.am2";
@@ -179,7 +190,7 @@ pub(crate) fn example_of(shown: Option<Shown>) -> &'static str {
 // Any words.
 fn any_words<'a>(alloc: Global) -> Arg<'a> {
     let words = Arg::new(alloc, "WORDS").num_args(0..);
-    words.allow_hyphen_values(true)
+    words.allow_hyphen_values(true).hide(true)
 }
 
 // What the help of a command shows.

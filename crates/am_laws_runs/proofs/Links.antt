@@ -243,7 +243,7 @@ number_at (p ∷ ps) zero n e = (p, refl, cc)
 number_at (p ∷ ps) (suc k) n e = number_at ps k n e
 
 -- a packet that is due: the released one, and the emitted one that is received
-pub record IsDue (s : ScenarioLists) (from to : NodeId) (sent : List Packet) (k number : ℕ) : Type 0 where
+pub record IsNextDue (s : ScenarioLists) (from to : NodeId) (sent : List Packet) (k number : ℕ) : Type 0 where
   pub released' : Packet
   pub at : slice_get (shape s.plan from to sent) k ≡ Some released'
   pub emitted' : Packet
@@ -251,7 +251,7 @@ pub record IsDue (s : ScenarioLists) (from to : NodeId) (sent : List Packet) (k 
   pub copy : packet_copy s emitted' ≡ packet_copy s released'
 
 pub due_is : (s : ScenarioLists) (layout : Layout) (past : List Entry) (from to : NodeId) (k number : ℕ) → IsHistory layout past →
-    slice_get (map number_of (shape s.plan from to (emitted from to past))) k ≡ Some number → IsDue s from to (emitted from to past) k number
+    slice_get (map number_of (shape s.plan from to (emitted from to past))) k ≡ Some number → IsNextDue s from to (emitted from to past) k number
 due_is s layout past from to k number h e =
     let r = number_at (shape s.plan from to (emitted from to past)) k number e in
     let sent : List Packet = emitted from to past in

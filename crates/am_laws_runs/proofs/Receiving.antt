@@ -55,7 +55,7 @@ use Rattle.am_laws_runs.specs.Turns.Work.{channel_work, work}
 use Rattle.am_laws_runs.proofs.Enabled.{of_packets, nodes_so}
 use Rattle.am_laws_runs.specs.Ends.Falls.{Falls, ReceiptsFall}
 use Rattle.am_laws_runs.proofs.Flights.{StaysAloft}
-use Rattle.am_laws_runs.proofs.Links.{taken_by, links_emit, links_still, links_take, IsDue, due_is}
+use Rattle.am_laws_runs.proofs.Links.{taken_by, links_emit, links_still, links_take, IsNextDue, due_is}
 use Rattle.am_laws_runs.proofs.EndStates.{ends_work, body_work, work_at, entry_ends, entry_none, requeued_work, notice_one}
 use Rattle.am_laws_runs.proofs.EndChannels.{never, bindings_least, at_bound, at_free, channels_change, channels_fewer, channel_self, others_stay}
 use Rattle.am_laws_runs.proofs.Parts.{acted_less, links_left, channels_work}
@@ -376,7 +376,7 @@ packet_falls s past stamp node peer number (Packets.Answer p) run at k =
 receipt_falls : (s : ScenarioLists) (past : List Entry) (node peer : NodeId) (number : ℕ) → IsOfRun s past → node.0 < s.nodes → peer.0 < s.nodes →
     due s peer node past ≡ Some number → work s (after_event (layout_of s) (Events.Receive node peer number) past) < work s past
 receipt_falls s past node peer number run on from e =
-    let d : IsDue s peer node (emitted peer node past) (length (received peer node past)) number =
+    let d : IsNextDue s peer node (emitted peer node past) (length (received peer node past)) number =
     due_is s (layout_of s) past peer node (length (received peer node past)) number run.history e in
     subst (λ (o : Option Packet). work s (past ++ record {
       stamp = next_stamp past;

@@ -12,7 +12,7 @@ use Rattle.am_main.specs.declared.commands.Command.TheVariants as Commands
 use Rattle.am_main.proofs.Statuses.{never}
 use Rattle.am_check.specs.declared.faults.CheckStop.{CheckStop}
 use Rattle.am_check.specs.declared.faults.CheckStop.TheVariants as Stops
-use Rattle.am_main_step.specs.Checks.{Tells}
+use Rattle.am_main_step.specs.Checks.{TellsVerdict}
 use Rattle.am_main_run.specs.Counts.Counts.{CountAnswers, CountsWords}
 use Rattle.am_main_lines.specs.Lines.{Answer}
 use Rattle.am_main_run.specs.Runs.{MakeAnswers, PrintsRun, RunAnswers, Summarizes}
@@ -143,7 +143,7 @@ count_zero nodes turns bytes answer (inl means) zero' = absurd (never_zero answe
 count_zero nodes turns bytes answer (inr (few, inl means)) zero' = (few, means.1)
 count_zero nodes turns bytes answer (inr (few, inr means)) zero' = absurd (never_zero answer.status 6 means.0 (omega arith) zero')
 
-check_zero : (says : Result (Unit {0}) CheckStop) (answer : Answer) → Tells says answer → answer.status ≡ 0 → answer.text ≡ codes "check ok\n"
+check_zero : (says : Result (Unit {0}) CheckStop) (answer : Answer) → TellsVerdict says answer → answer.status ≡ 0 → answer.text ≡ codes "check ok\n"
 check_zero (Ok x) answer tells zero' = ap (λ (a : Answer). a.text) tells
 check_zero (Err (Stops.Fault number what)) answer tells zero' =
     absurd (never_zero answer.status 10 (ap (λ (a : Answer). a.status) tells) (omega arith) zero')

@@ -12,7 +12,7 @@ use Rattle.am_main.specs.declared.commands.Command.{Command}
 use Rattle.am_main.specs.declared.commands.Command.TheVariants as Commands
 use Rattle.am_check.specs.declared.faults.CheckStop.{CheckStop}
 use Rattle.am_check.specs.declared.faults.CheckStop.TheVariants as Stops
-use Rattle.am_main_step.specs.Checks.{Tells}
+use Rattle.am_main_step.specs.Checks.{TellsVerdict}
 use Rattle.am_main_run.specs.Counts.Counts.{CountAnswers}
 use Rattle.am_main_lines.specs.Lines.{Answer}
 use Rattle.am_main_run.specs.Runs.{MakeAnswers, RunAnswers}
@@ -64,7 +64,7 @@ count_own nodes turns bytes answer (inl means) = inr (inr (inl (ap (λ (a : Answ
 count_own nodes turns bytes answer (inr (few, inl means)) = inl means.0
 count_own nodes turns bytes answer (inr (few, inr means)) = inr (inl means.0)
 
-check_own : (says : Result (Unit {0}) CheckStop) (answer : Answer) → Tells says answer → IsOneOf (0 ∷ 3 ∷ 6 ∷ 10 ∷ []) answer.status
+check_own : (says : Result (Unit {0}) CheckStop) (answer : Answer) → TellsVerdict says answer → IsOneOf (0 ∷ 3 ∷ 6 ∷ 10 ∷ []) answer.status
 check_own (Ok x) answer tells = inl (ap (λ (a : Answer). a.status) tells)
 check_own (Err (Stops.Scenario fault)) answer tells = inr (inl (ap (λ (a : Answer). a.status) tells))
 check_own (Err (Stops.LogFull part)) answer tells = inr (inr (inl (ap (λ (a : Answer). a.status) tells)))

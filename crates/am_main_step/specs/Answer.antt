@@ -79,14 +79,14 @@ Makes steps journal m (Err (Faults.Scenario fault)) = ⊥
 
 -- What the text of a scenario tells of what its steps made, unless memory ran out: the report of their journal; or what
 -- stopped the first step that could not be made, and its line.
-abbrev pub Tells : ScenarioLists → Made → Result (List ℕ) StepFault → Type 0
-Tells s m (Ok text) = (m.stopped ≡ None) × (text ≡ report (ids_of s.ends) m.journal)
-Tells s m (Err (Faults.NotEnabled line condition)) = (m.stopped ≡ Some (NotEnabled condition)) × (line ≡ line_at s.steps (length m.journal))
-Tells s m (Err (Faults.LogFull part)) = m.stopped ≡ Some (LogFull part)
-Tells s m (Err Faults.NoMemory) = Unit {0}
-Tells s m (Err (Faults.Scenario fault)) = ⊥
+abbrev pub TellsMade : ScenarioLists → Made → Result (List ℕ) StepFault → Type 0
+TellsMade s m (Ok text) = (m.stopped ≡ None) × (text ≡ report (ids_of s.ends) m.journal)
+TellsMade s m (Err (Faults.NotEnabled line condition)) = (m.stopped ≡ Some (NotEnabled condition)) × (line ≡ line_at s.steps (length m.journal))
+TellsMade s m (Err (Faults.LogFull part)) = m.stopped ≡ Some (LogFull part)
+TellsMade s m (Err Faults.NoMemory) = Unit {0}
+TellsMade s m (Err (Faults.Scenario fault)) = ⊥
 
 -- the same, where the text is a vector
 abbrev pub TellsText : ScenarioLists → Made → Result (Vec ℕ) StepFault → Type 0
-TellsText s m (Ok text) = Tells s m (Ok text.items)
-TellsText s m (Err fault) = Tells s m (Err fault)
+TellsText s m (Ok text) = TellsMade s m (Ok text.items)
+TellsText s m (Err fault) = TellsMade s m (Err fault)

@@ -47,17 +47,17 @@ pub record IsVerdict (form : Form) (bytes : List ℕ) (says : Result (Unit {0}) 
 
 -- An answer tells what the checker says: yes; the first line of the report with a fault; the first fault of the text in front of the
 -- report; or the log that an event of the report finds full. Want of memory is none of these.
-abbrev pub Tells : Result (Unit {0}) CheckStop → Answer → Type 0
-Tells (Ok x) answer = answer ≡ yes
-Tells (Err (Stops.Fault number what)) answer = answer ≡ record { status = 10; text = check_line number what }
-Tells (Err (Stops.Scenario fault)) answer = answer ≡ refusal fault
-Tells (Err (Stops.LogFull part)) answer = answer ≡ record { status = 6; text = full_line part }
-Tells (Err Stops.NoMemory) answer = ⊥
+abbrev pub TellsVerdict : Result (Unit {0}) CheckStop → Answer → Type 0
+TellsVerdict (Ok x) answer = answer ≡ yes
+TellsVerdict (Err (Stops.Fault number what)) answer = answer ≡ record { status = 10; text = check_line number what }
+TellsVerdict (Err (Stops.Scenario fault)) answer = answer ≡ refusal fault
+TellsVerdict (Err (Stops.LogFull part)) answer = answer ≡ record { status = 6; text = full_line part }
+TellsVerdict (Err Stops.NoMemory) answer = ⊥
 
 -- THE HEADLINE, for the command `check`: the status is 0, with `check ok`, exactly where the bytes are a scenario and the report of a
 -- history that follows it and obeys the laws; else the answer tells the first fault.
 pub record CheckAnswers (form : Form) (bytes : List ℕ) (answer : Answer) : Type 0 where
   pub says : Result (Unit {0}) CheckStop
   pub verdict : IsVerdict form bytes says
-  pub tells : Tells says answer
+  pub tells : TellsVerdict says answer
   pub exactly : (answer.status ≡ 0) ↔ IsTrueReport form bytes

@@ -9,3 +9,4 @@ pub mod Summed
 pub mod Totalled
 pub mod Printed
 pub mod Printing
+pub mod Walked

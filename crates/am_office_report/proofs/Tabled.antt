@@ -17,11 +17,6 @@ use Rattle.am_office_report.specs.declared.runs.Run.{Run}
 use Rattle.am_office_report.specs.Report.{run_at, run_if, run_in}
 use Rattle.am_office_report.specs.Tables.{with_run, AreRuns}
 
--- what one item more gives
-pub filter_map_next : {X Y : Type 0} (h : X → Option Y) (xs : List X) (i : ℕ) (d : X) → i < length xs →
-    filter_map h (take (i + 1) xs) ≡ filter_map h (take i xs) ++ cons_option (h (get_or xs i d)) []
-filter_map_next h xs i d below = rw (add-one, take-suc xs i d below) (filter_map-append h (take i xs) (get_or xs i d ∷ []))
-
 kept : (lists : List (List Run)) (run : Option (EndpointId × Run)) → length (with_run lists run) ≡ length lists
 kept lists None = refl
 kept lists (Some run) = length-set lists run.0.0 (slice_index_or lists run.0.0 [] ++ run.1 ∷ [])
@@ -40,24 +35,18 @@ with_run_at : (lists : List (List Run)) (e : EndpointId) (run : Option (Endpoint
 with_run_at lists e None below = sym (append-nil (slice_index_or lists e.0 []))
 with_run_at lists e (Some (end, run)) below = at_end lists e end run below
 
-entry_runs : (lists : List (List Run)) (xs : List Entry) (i : ℕ) (d : Entry) → i < length xs → AreRuns lists (take i xs) →
-    AreRuns (with_run lists (run_in (get_or xs i d).event (get_or xs i d).outcome)) (take (i + 1) xs)
-entry_runs lists xs i d below are =
-    let run : Option (EndpointId × Run) = run_in (get_or xs i d).event (get_or xs i d).outcome in
+-- the runs of one entry more
+pub runs_more : (lists : List (List Run)) (past : List Entry) (x : Entry) → AreRuns lists past →
+    AreRuns (with_run lists (run_in x.event x.outcome)) (past ++ x ∷ [])
+runs_more lists past x are =
+    let run : Option (EndpointId × Run) = run_in x.event x.outcome in
     record {
       size = kept lists run ∙ are.size;
       each = λ (e : EndpointId) (small : e.0 < 256).
           with_run_at lists e run (rw are.size small)
           ∙ ap (λ (runs : List Run). runs ++ cons_option (run_at e run) []) (are.each e small)
-          ∙ sym (filter_map_next (λ (x : Entry). run_at e (run_in x.event x.outcome)) xs i d below);
+          ∙ sym (filter_map-append (λ (y : Entry). run_at e (run_in y.event y.outcome)) past (x ∷ []));
     }
-
--- so with entries behind references
-pub runs_next : (lists : List (List Run)) (xs : List (Bor Entry)) (i : ℕ) (d : Bor Entry) → i < length xs → AreRuns lists (take i (entries_behind xs)) →
-    AreRuns (with_run lists (run_in (get_or xs i d).now.event (get_or xs i d).now.outcome)) (take (i + 1) (entries_behind xs))
-runs_next lists xs i d below are =
-    subst (λ (x : Entry). AreRuns (with_run lists (run_in x.event x.outcome)) (take (i + 1) (entries_behind xs))) (behind_at xs i d d.now below)
-    (entry_runs lists (entries_behind xs) i d.now (let same = length_behind xs in omega (arith, same, below)) are)
 
 pub no_runs : AreRuns (replicate 256 []) []
 no_runs = record {

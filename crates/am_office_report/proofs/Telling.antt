@@ -1,26 +1,28 @@
 -- The table of a journal's messages, entry by entry, and the fates that it gives.
-use Rattle.std.proofs.Common.{◌≡◌, ℕ, ◌+◌, ◌<◌, Option, Some, None, List, [], ◌∷◌, ◌++◌, refl, sym, ap, ◌∙◌, map, length, take, get_or, add-one, arith}
-use Rattle.std.specs.Borrow.{Bor}
-use Rattle.std.specs.List.{fold}
+use Rattle.std.proofs.Common.{◌≡◌, ℕ, ◌<◌, ◌+◌, add-one, length, take, get_or, Option, Some, None, List, [], ◌∷◌, ◌++◌, refl, sym, ap, ◌∙◌, map, filter_map, option_to_list, Result, Ok, Err, OnOk, IfOk, append_assoc}
+use Rattle.std.specs.Global.{Vec}
+use Rattle.std.specs.List.{fold, cons_option}
 use Rattle.std.specs.BTreeMap.{insert_entry}
 use Rattle.std.specs.Ordering.{match_ordering}
 use Rattle.std.proofs.Math.Seq.{take-suc}
+use Rattle.std.proofs.lemmas.List.{append-nil}
+use Rattle.std.proofs.lemmas.List.Elements.{filter_map-append}
 use Rattle.am_lemmas.proofs.Lists.{map_alike, map_twice}
 use Rattle.am_names.specs.declared.Serial.{Serial}
 use Rattle.am_names.specs.declared.MsgKind.{MsgKind}
 use Rattle.am_names.specs.declared.Message.{Message}
 use Rattle.am_names.specs.Names.{serial_order}
 use Rattle.am_office_entries.specs.declared.Entry.{Entry}
-use Rattle.am_office_entries.specs.Logged.Behind.{entries_behind}
-use Rattle.am_office_entries.proofs.Entries.{behind_at, length_behind}
+use Rattle.am_office_report.specs.declared.messages.MessageFate.{MessageFate}
 use Rattle.am_office_report.specs.declared.sources.MessageState.{MessageState}
+use Rattle.am_office_report.specs.declared.heard.Heard.{Heard}
 use Rattle.am_office_report.specs.declared.known.Known.{Known}
 use Rattle.am_office_report.specs.declared.known.News.{News}
 use Rattle.am_office_entries.specs.Entries.{accepted_of}
 use Rattle.am_office_entries.specs.Fates.{causes_of, is_unknown, is_run, fate_of_accepted}
 use Rattle.am_office_report.specs.Report.{told, listed, listed_with}
-use Rattle.am_office_report.specs.Tables.{accepted_state, accepted_with, heard_with, messages_in, state_after, entry_after, fate_of_entry, known_of}
-use Rattle.am_office_report.specs.Tables.{known_after, news_in}
+use Rattle.am_office_report.specs.Tables.{accepted_state, accepted_with, heard_with, heard_all, messages_in, state_after, entry_after, fate_of_entry, known_of}
+use Rattle.am_office_report.specs.Tables.{known_after, news_of, HasHeard}
 use Rattle.am_office_entries.proofs.Causes.{fate_by_first}
 use Rattle.am_office_report.proofs.Flat.{match_map}
 use Rattle.am_office_report.proofs.Knowing.{known_append}
@@ -35,11 +37,8 @@ fold_append : {A B : Type 0} (f : B → A → B) (a : B) (xs : List A) (x : A) �
 fold_append f a [] x = refl
 fold_append f a (y ∷ ys) x = fold_append f (f a y) ys x
 
-listed_next : (xs : List Entry) (i : ℕ) (d : Entry) → i < length xs → listed (take (i + 1) xs) ≡ listed_with (listed (take i xs)) (accepted_of (get_or xs i d))
-listed_next xs i d below =
-    let taken : take (i + 1) xs ≡ take i xs ++ get_or xs i d ∷ [] = rw add-one (take-suc xs i d below) in
-    ap listed taken
-    ∙ fold_append (λ (messages : List (Serial × MsgKind)) (x : Entry). listed_with messages (accepted_of x)) [] (take i xs) (get_or xs i d)
+listed_more : (past : List Entry) (x : Entry) → listed (past ++ x ∷ []) ≡ listed_with (listed past) (accepted_of x)
+listed_more past x = fold_append (λ (messages : Listed) (y : Entry). listed_with messages (accepted_of y)) [] past x
 
 accepted_next : (listed : Listed) (s : Serial) (kind : MsgKind) →
     insert_entry serial_order (map (state_after []) listed) s (accepted_state kind) ≡ map (state_after []) (insert_entry serial_order listed s kind)
@@ -58,59 +57,64 @@ heard_each : (f : Serial × MsgKind → Known) (news : Option (Serial × News)) 
 heard_each f None listed = refl
 heard_each f (Some (about, news)) listed = map_twice (λ (m : Serial × MsgKind). state_of m (f m)) (entry_after about news) listed
 
-one_next : (xs : List Entry) (i : ℕ) (d : Entry) → i < length xs → (m : Serial × MsgKind) →
-    state_of m (known_after m.0 (known_of (take i xs) m.0) (news_in (get_or xs i d).event (get_or xs i d).outcome)) ≡ state_after (take (i + 1) xs) m
-one_next xs i d below m =
-    let taken : take (i + 1) xs ≡ take i xs ++ get_or xs i d ∷ [] = rw add-one (take-suc xs i d below) in
-    ap (λ (k : Known). state_of m k) (sym (known_append m.0 (take i xs) (get_or xs i d)) ∙ ap (λ (past : List Entry). known_of past m.0) (sym taken))
-
 -- one entry more of those whose news are noted
-entry_all : (old new : List (List (ℕ × MessageState))) (xs : List Entry) (i : ℕ) (d : Entry) (news : Option (Serial × News)) (listed : Listed) →
-    i < length xs → messages_in old ≡ map (state_after (take i xs)) listed → news ≡ news_in (get_or xs i d).event (get_or xs i d).outcome →
-    messages_in new ≡ heard_with (messages_in old) news → messages_in new ≡ map (state_after (take (i + 1) xs)) listed
-entry_all old new xs i d news listed below before is step =
-    let said : Option (Serial × News) = news_in (get_or xs i d).event (get_or xs i d).outcome in
-    step
-    ∙ ap (λ (es : Entries). heard_with es news) before
-    ∙ ap (λ (n : Option (Serial × News)). heard_with (map (state_after (take i xs)) listed) n) is
-    ∙ heard_each (λ (m : Serial × MsgKind). known_of (take i xs) m.0) said listed
-    ∙ map_alike (λ (m : Serial × MsgKind). state_of m (known_after m.0 (known_of (take i xs) m.0) said)) (state_after (take (i + 1) xs)) (one_next xs i d below)
-    listed
+heard_more : (past : List Entry) (x : Entry) (listed : Listed) →
+    heard_with (map (state_after past) listed) (news_of x) ≡ map (state_after (past ++ x ∷ [])) listed
+heard_more past x listed =
+    heard_each (λ (m : Serial × MsgKind). known_of past m.0) (news_of x) listed
+    ∙ map_alike (λ (m : Serial × MsgKind). state_of m (known_after m.0 (known_of past m.0) (news_of x))) (state_after (past ++ x ∷ []))
+    (λ m. ap (λ (k : Known). state_of m k) (sym (known_append m.0 past x))) listed
+
+-- the news up to one more
+pub heard_next : (es : Entries) (news : List (Serial × News)) (i : ℕ) (d : Serial × News) → i < length news →
+    heard_all es (take (i + 1) news) ≡ map (entry_after (get_or news i d).0 (get_or news i d).1) (heard_all es (take i news))
+heard_next es news i d below =
+    let taken : take (i + 1) news ≡ take i news ++ get_or news i d ∷ [] = rw add-one (take-suc news i d below) in
+    ap (λ (ns : List (Serial × News)). heard_all es ns) taken
+    ∙ fold_append (λ (before : Entries) (one : Serial × News). map (entry_after one.0 one.1) before) es (take i news) (get_or news i d)
+
+one_heard : (es : Entries) (news : Option (Serial × News)) (rest : List (Serial × News)) →
+    heard_all es (cons_option news rest) ≡ heard_all (heard_with es news) rest
+one_heard es None rest = refl
+one_heard es (Some one) rest = refl
+
+heard_behind : (past xs : List Entry) (listed : Listed) →
+    heard_all (map (state_after past) listed) (filter_map news_of xs) ≡ map (state_after (past ++ xs)) listed
+heard_behind past [] listed = ap (λ (journal : List Entry). map (state_after journal) listed) (sym (append-nil past))
+heard_behind past (x ∷ xs) listed =
+    one_heard (map (state_after past) listed) (news_of x) (filter_map news_of xs)
+    ∙ ap (λ (es : Entries). heard_all es (filter_map news_of xs)) (heard_more past x listed)
+    ∙ heard_behind (past ++ x ∷ []) xs listed
+    ∙ ap (λ (journal : List Entry). map (state_after journal) listed) (append_assoc past (x ∷ []) xs)
 
 accepted_listed : (listed : Listed) (accepted : Option Message) →
     accepted_with (map (state_after []) listed) accepted ≡ map (state_after []) (listed_with listed accepted)
 accepted_listed listed None = refl
 accepted_listed listed (Some m) = accepted_next listed m.serial m.kind
 
--- one entry more of those whose accepted messages are listed
-entry_of : (old new : List (List (ℕ × MessageState))) (xs : List Entry) (i : ℕ) (d : Entry) (accepted : Option Message) → i < length xs →
-    messages_in old ≡ map (state_after []) (listed (take i xs)) → accepted ≡ accepted_of (get_or xs i d) →
-    messages_in new ≡ accepted_with (messages_in old) accepted → messages_in new ≡ map (state_after []) (listed (take (i + 1) xs))
-entry_of old new xs i d accepted below before is step =
-    step
-    ∙ ap (λ (es : Entries). accepted_with es accepted) before
-    ∙ ap (λ (a : Option Message). accepted_with (map (state_after []) (listed (take i xs))) a) is
-    ∙ accepted_listed (listed (take i xs)) (accepted_of (get_or xs i d))
-    ∙ ap (λ (ms : Listed). map (state_after []) ms) (sym (listed_next xs i d below))
+one_news : {X : Type 0} (o : Option X) → option_to_list o ≡ cons_option o []
+one_news None = refl
+one_news (Some x) = refl
 
--- ---- so with entries behind references
+-- one entry more of those that are heard
+pub hears : {T E : Type 0} (r : Result T E) (old new : Heard) (past : List Entry) (x : Entry) (accepted : Option Message)
+    (found : Option (Serial × News)) → accepted ≡ accepted_of x → found ≡ news_of x → HasHeard old past →
+    messages_in new.messages ≡ accepted_with (messages_in old.messages) accepted →
+    OnOk r (new.news.items ≡ old.news.items ++ option_to_list found) → OnOk r (HasHeard new (past ++ x ∷ []))
+hears (Err e) old new past x accepted found is tells h table news = tt
+hears (Ok y) old new past x accepted found is tells h table news = record {
+  accepted = table ∙ ap (λ (es : Entries). accepted_with es accepted) h.accepted
+      ∙ ap (λ (a : Option Message). accepted_with (map (state_after []) (listed past)) a) is
+      ∙ accepted_listed (listed past) (accepted_of x)
+      ∙ ap (λ (ms : Listed). map (state_after []) ms) (sym (listed_more past x));
+  news = news ∙ ap (λ (ns : List (Serial × News)). ns ++ option_to_list found) h.news
+      ∙ ap (λ (f : Option (Serial × News)). filter_map news_of past ++ option_to_list f) tells
+      ∙ ap (λ (ns : List (Serial × News)). filter_map news_of past ++ ns) (one_news (news_of x))
+      ∙ sym (filter_map-append news_of past (x ∷ []));
+}
 
-within : (xs : List (Bor Entry)) (i : ℕ) → i < length xs → i < length (entries_behind xs)
-within xs i below = let same = length_behind xs in omega (arith, same, below)
-
-pub all_next : (old new : List (List (ℕ × MessageState))) (xs : List (Bor Entry)) (i : ℕ) (d : Bor Entry) (news : Option (Serial × News)) (listed : Listed) →
-    i < length xs → messages_in old ≡ map (state_after (take i (entries_behind xs))) listed →
-    news ≡ news_in (get_or xs i d).now.event (get_or xs i d).now.outcome → messages_in new ≡ heard_with (messages_in old) news →
-    messages_in new ≡ map (state_after (take (i + 1) (entries_behind xs))) listed
-all_next old new xs i d news listed below before is step =
-    entry_all old new (entries_behind xs) i d.now news listed (within xs i below) before
-    (is ∙ ap (λ (x : Entry). news_in x.event x.outcome) (sym (behind_at xs i d d.now below))) step
-
-pub of_next : (old new : List (List (ℕ × MessageState))) (xs : List (Bor Entry)) (i : ℕ) (d : Bor Entry) (accepted : Option Message) → i < length xs →
-    messages_in old ≡ map (state_after []) (listed (take i (entries_behind xs))) → accepted ≡ accepted_of (get_or xs i d).now →
-    messages_in new ≡ accepted_with (messages_in old) accepted → messages_in new ≡ map (state_after []) (listed (take (i + 1) (entries_behind xs)))
-of_next old new xs i d accepted below before is step =
-    entry_of old new (entries_behind xs) i d.now accepted (within xs i below) before (is ∙ ap accepted_of (sym (behind_at xs i d d.now below))) step
+pub heard_none : (heard : Heard) → messages_in heard.messages ≡ [] → heard.news.items ≡ [] → HasHeard heard []
+heard_none heard table news = record { accepted = table; news = news }
 
 one_told : (journal : List Entry) (m : Serial × MsgKind) → fate_of_entry (state_after journal m) ≡ record {
   serial = m.0;
@@ -119,7 +123,22 @@ one_told : (journal : List Entry) (m : Serial × MsgKind) → fate_of_entry (sta
 }
 one_told journal m = rw (fate_by_first (causes_of journal m.0) (is_unknown journal m.0) (is_run journal m.0)) refl
 
-pub told_as_known : (journal : List Entry) → map fate_of_entry (map (state_after journal) (listed journal)) ≡ told journal
+told_as_known : (journal : List Entry) → map fate_of_entry (map (state_after journal) (listed journal)) ≡ told journal
 told_as_known journal =
     map_twice (state_after journal) fate_of_entry (listed journal)
     ∙ map_alike (λ (m : Serial × MsgKind). fate_of_entry (state_after journal m)) _ (one_told journal) (listed journal)
+
+-- what is heard of a journal gives its fates
+told_as_heard : (heard : Heard) (journal : List Entry) (table : List (List (ℕ × MessageState))) (news : List (Serial × News)) → HasHeard heard journal →
+    news ≡ heard.news.items → messages_in table ≡ heard_all (messages_in heard.messages) news → map fate_of_entry (messages_in table) ≡ told journal
+told_as_heard heard journal table news h is all =
+    ap (λ (es : Entries). map fate_of_entry es) (all ∙ ap (λ (ns : List (Serial × News)). heard_all (messages_in heard.messages) ns) (is ∙ h.news)
+    ∙ ap (λ (es : Entries). heard_all es (filter_map news_of journal)) h.accepted ∙ heard_behind [] journal (listed journal))
+    ∙ told_as_known journal
+
+pub told_by : {E : Type 0} (r : Result (Vec MessageFate) E) (heard : Heard) (journal : List Entry) (table : List (List (ℕ × MessageState)))
+    (news : List (Serial × News)) → HasHeard heard journal → news ≡ heard.news.items → messages_in table ≡ heard_all (messages_in heard.messages) news →
+    IfOk r (λ (fates : Vec MessageFate). fates.items ≡ map fate_of_entry (messages_in table)) →
+    IfOk r (λ (fates : Vec MessageFate). fates.items ≡ told journal)
+told_by (Ok fates) heard journal table news h is all told = told ∙ told_as_heard heard journal table news h is all
+told_by (Err e) heard journal table news h is all told = tt

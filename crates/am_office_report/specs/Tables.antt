@@ -1,6 +1,7 @@
 -- The tables from which a report is made.
 use Rattle.std.specs.Prelude.{◌≡◌, ◌^◌, ◌<◌, ◌≤◌, ◌+◌, ◌==◌, ℕ, Bool, map, true, false, if◌then◌else◌, Option, Some, None, option_to_list, List, [], ◌∷◌, ◌++◌}
-use Rattle.std.specs.Prelude.{length, slice_set, slice_get, slice_index_or}
+use Rattle.std.specs.Prelude.{length, slice_set, slice_get, slice_index_or, filter_map}
+use Rattle.std.specs.List.{fold}
 use Rattle.std.specs.Option.{option_or}
 use Rattle.std.specs.BTreeMap.{insert_entry}
 use Rattle.am_names.specs.declared.EndpointId.{EndpointId}
@@ -22,8 +23,9 @@ use Rattle.am_office_report.specs.declared.known.News.{News}
 use Rattle.am_office_report.specs.declared.known.News.TheVariants as Latest
 use Rattle.am_office_report.specs.declared.messages.MessageFate.{MessageFate}
 use Rattle.am_office_report.specs.declared.sources.MessageState.{MessageState}
+use Rattle.am_office_report.specs.declared.heard.Heard.{Heard}
 use Rattle.am_office_entries.specs.Fates.{fate_by, causes_of, is_unknown, is_run}
-use Rattle.am_office_report.specs.Report.{runs_at}
+use Rattle.am_office_report.specs.Report.{listed, runs_at}
 use Rattle.am_office_report.specs.Report as texts
 use Rattle.am_office_report.specs.declared.totals.Totals.{Totals}
 use Rattle.am_office_entries.specs.declared.endings.Fate.{Fate}
@@ -123,9 +125,22 @@ abbrev pub heard_with : List (Serial × MessageState) → Option (Serial × News
 heard_with entries None = entries
 heard_with entries (Some (about, news)) = map (entry_after about news) entries
 
+-- the messages after these news, one after the other
+abbrev pub heard_all : List (Serial × MessageState) → List (Serial × News) → List (Serial × MessageState)
+heard_all entries news = fold (λ (before : List (Serial × MessageState)) (one : Serial × News). map (entry_after one.0 one.1) before) entries news
+
+-- what an entry says of a message's fate
+abbrev pub news_of : Entry → Option (Serial × News)
+news_of x = news_in x.event x.outcome
+
 -- a listed message with what a journal says of it
 abbrev pub state_after : List Entry → Serial × MsgKind → Serial × MessageState
 state_after journal m = (m.0, record { kind = m.1; known = known_of journal m.0 })
+
+-- of these entries the accepted messages, and what they say of the messages' fates, in order
+pub record HasHeard (heard : Heard) (past : List Entry) : Type 0 where
+  pub accepted : messages_in heard.messages ≡ map (state_after []) (listed past)
+  pub news : heard.news.items ≡ filter_map news_of past
 
 -- a message with its fate
 abbrev pub fate_of_entry : Serial × MessageState → MessageFate

@@ -2,6 +2,7 @@
 //! and its summary of two lines.
 #![tactic(auto)]
 
+mod heard;
 mod known;
 mod laws;
 mod messages;

@@ -1,14 +1,12 @@
 //! The accepted messages of a journal, in order, with their fates.
 
 ghost use Rattle.std.specs.Prelude.{◌≡◌, ◌++◌, [], OnOk, IfOk, map, replicate};
-ghost use Rattle.am_office_entries.specs.Logged.Behind.{entries_behind};
-ghost use Rattle.am_office_report.specs.Report as report;
 ghost use Rattle.am_office_report.specs.Tables.{source_entry, fate_of_entry};
 
-use crate::known::{News, news_in};
+use crate::known::News;
 use crate::sources::{MessageState, SourceMessages};
 use am_names::{EndpointId, Message, MsgKind, Serial};
-use am_office_entries::{Entry, Fate, accepted_of};
+use am_office_entries::Fate;
 use std::alloc::{AllocError, Global};
 use std::marker::Model;
 
@@ -26,7 +24,7 @@ const SOURCES: usize = 256;
 /// The accepted messages of a journal with what is known of their fates, one list for each source. Contracts see the
 /// lists.
 #[derive(Drop)]
-struct MessageTable {
+pub(crate) struct MessageTable {
     sources: Vec<SourceMessages>,
 }
 
@@ -71,15 +69,12 @@ fn tell(
 }
 
 impl MessageTable {
-    ghost use Rattle.std.specs.Prelude.{◌≡◌, List, [], OnOk, IfOk, map};
+    ghost use Rattle.std.specs.Prelude.{◌≡◌, [], OnOk, IfOk, map};
     ghost use Rattle.std.specs.BTreeMap.{insert_entry};
     ghost use Rattle.am_names.specs.Names.{serial_order};
-    ghost use Rattle.am_office_entries.specs.declared.Entry.{Entry};
-    ghost use Rattle.am_office_entries.specs.Logged.Behind.{entries_behind};
-    ghost use Rattle.am_office_report.specs.Report.{listed};
-    ghost use Rattle.am_office_report.specs.Tables.{messages_in, accepted_state, accepted_with, heard_with, entry_after, state_after, fate_of_entry};
+    ghost use Rattle.am_office_report.specs.Tables.{messages_in, accepted_state, accepted_with, heard_all, entry_after, fate_of_entry};
 
-    fn new(alloc: Global) -> Result<Self, AllocError>
+    pub(crate) fn new(alloc: Global) -> Result<Self, AllocError>
         ensures { IfOk result (λ table. messages_in table ≡ []) }
     {
         let sources = empty_sources(alloc)?;
@@ -99,7 +94,8 @@ impl MessageTable {
         self.sources[usize::from(serial.source.0)].learn(serial.count, news);
     }
 
-    fn accept_of(&mut self, accepted: Option<Message>) -> Result<(), AllocError>
+    /// Enters an accepted message, if there is one, with nothing known of its fate.
+    pub(crate) fn accept_of(&mut self, accepted: Option<Message>) -> Result<(), AllocError>
         ensures { OnOk result (messages_in self.new ≡ accepted_with (messages_in self.old) accepted) }
     {
         match accepted {
@@ -108,38 +104,18 @@ impl MessageTable {
         }
     }
 
-    fn learn_of(&mut self, news: Option<(Serial, News)>)
-        ensures { messages_in self.new ≡ heard_with (messages_in self.old) news }
+    /// Notes these news, one after the other.
+    #[tactic(auto, using(crate::proofs::Telling::heard_next))]
+    pub(crate) fn learn_all(&mut self, news: &[(Serial, News)])
+        ensures { messages_in self.new ≡ heard_all (messages_in self.old) news.now }
     {
-        if let Some((serial, news)) = news {
-            self.learn(serial, news);
+        for (serial, news) in news {
+            self.learn(*serial, *news);
         }
     }
 
-    // The accepted messages of a journal, of whose fates nothing is known yet.
-    #[tactic(auto, using(am_office_entries::proofs::Entries::length_behind))]
-    fn of(alloc: Global, entries: &[&Entry]) -> Result<Self, AllocError>
-        ensures { IfOk result (λ table. messages_in table ≡ map (state_after []) (listed (entries_behind entries.now))) }
-    {
-        let mut table = MessageTable::new(alloc)?;
-        for entry in entries {
-            table.accept_of(accepted_of(entry))?;
-        }
-        Ok(table)
-    }
-
-    // Notes what a journal's entries say of the messages' fates.
-    #[tactic(auto, using(am_office_entries::proofs::Entries::length_behind))]
-    fn learn_all(&mut self, entries: &[&Entry])
-        ensures { (journal : List Entry) → messages_in self.old ≡ map (state_after []) (listed journal) → messages_in self.new ≡ map (state_after (entries_behind entries.now)) (listed journal) }
-    {
-        for entry in entries {
-            self.learn_of(news_in(entry));
-        }
-    }
-
-    // The messages in order, with their fates.
-    fn told(&self, alloc: Global) -> Result<Vec<MessageFate>, AllocError>
+    /// The messages in order, with their fates.
+    pub(crate) fn told(&self, alloc: Global) -> Result<Vec<MessageFate>, AllocError>
         ensures { IfOk result (λ told. told.items ≡ map fate_of_entry (messages_in self.now)) }
     {
         let mut told = Vec::new(alloc);
@@ -152,14 +128,4 @@ impl MessageTable {
         }
         Ok(told)
     }
-}
-
-/// The accepted messages of a journal, each serial once, in ascending order of source and count, with their fates.
-#[tactic(auto, using(crate::proofs::Telling::told_as_known))]
-pub(crate) fn told(alloc: Global, entries: &[&Entry]) -> Result<Vec<MessageFate>, AllocError>
-    ensures { IfOk result (λ told. told.items ≡ report.told (entries_behind entries.now)) }
-{
-    let mut table = MessageTable::of(alloc, entries)?;
-    table.learn_all(entries);
-    table.told(alloc)
 }

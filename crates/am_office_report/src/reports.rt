@@ -10,9 +10,10 @@ ghost use Rattle.am_office_text.specs.Words as printed;
 ghost use Rattle.am_office_text.specs.Words.{line, spaced};
 ghost use Rattle.am_office_text.specs.EntryLines.Lines.{line_of};
 ghost use Rattle.am_office_report.specs.Report as text;
-ghost use Rattle.am_office_report.specs.Tables.{AreRuns};
+ghost use Rattle.am_office_report.specs.Tables.{AreRuns, HasHeard};
 
-use crate::messages::{MessageFate, told};
+use crate::heard::{Heard, told};
+use crate::messages::MessageFate;
 use crate::runs::{Run, RunTable};
 use crate::totals::totals_of;
 use am_names::{EndpointId, Serial, Words};
@@ -44,14 +45,6 @@ fn put_count(out: &mut Vec<u8>, entries: &[&Entry]) -> Result<(), AllocError>
     ensures { OnOk result (out.new.items ≡ out.old.items ++ text.entries_line (entries_behind entries.now)) }
 {
     put_line(out, "entries", &[Number(entries.len() as u64)])
-}
-
-#[tactic(auto, using(std::proofs::Common::append_assoc), unfolding(crate::specs::Report::journal_part))]
-fn put_journal(out: &mut Vec<u8>, entries: &[&Entry]) -> Result<(), AllocError>
-    ensures { OnOk result (out.new.items ≡ out.old.items ++ text.journal_part (entries_behind entries.now)) }
-{
-    put_count(out, entries)?;
-    put_entries(out, entries)
 }
 
 // The line of a run of a handler.
@@ -197,16 +190,54 @@ fn put_messages(out: &mut Vec<u8>, messages: &[MessageFate]) -> Result<(), Alloc
     put_totals(out, messages)
 }
 
+// Appends the line of an entry, and takes it in among the runs and the news.
+fn walk_over(
+    out: &mut Vec<u8>,
+    runs: &mut RunTable,
+    heard: &mut Heard,
+    entry: &Entry,
+) -> Result<(), AllocError>
+    ensures line { OnOk result (out.new.items ≡ out.old.items ++ line_of entry.now) }
+    ensures runs { (past : List Entry) → AreRuns runs.old past → OnOk result (AreRuns runs.new (past ++ entry.now ∷ [])) }
+    ensures heard { (past : List Entry) → HasHeard heard.old past → OnOk result (HasHeard heard.new (past ++ entry.now ∷ [])) }
+{
+    if let Err(NoMemory) = entry_line(entry, out) {
+        return Err(AllocError);
+    }
+    runs.add(entry)?;
+    heard.hear(entry)
+}
+
+// Walks over a journal once: appends its lines, and takes in what ran and what is heard of the messages.
+#[tactic(auto, using(am_office_entries::proofs::Entries::length_behind))]
+fn walk(
+    out: &mut Vec<u8>,
+    runs: &mut RunTable,
+    heard: &mut Heard,
+    entries: &[&Entry],
+) -> Result<(), AllocError>
+    ensures lines { OnOk result (out.new.items ≡ out.old.items ++ flat_map line_of (entries_behind entries.now)) }
+    ensures runs { AreRuns runs.old [] → OnOk result (AreRuns runs.new (entries_behind entries.now)) }
+    ensures heard { HasHeard heard.old [] → OnOk result (HasHeard heard.new (entries_behind entries.now)) }
+{
+    for entry in entries {
+        walk_over(out, runs, heard, entry)?;
+    }
+    Ok(())
+}
+
 #[tactic(auto, using(std::proofs::Common::append_assoc), unfolding(crate::specs::Report::report))]
 fn text(alloc: Global, ends: &[EndpointId], entries: &[&Entry]) -> Result<Vec<u8>, AllocError>
     ensures { IfOk result (λ bytes. bytes.items ≡ text.report ends.now (entries_behind entries.now)) }
 {
-    let table = RunTable::of(alloc, entries)?;
-    let messages = told(alloc, entries)?;
+    let mut runs = RunTable::new(alloc)?;
+    let mut heard = Heard::new(alloc)?;
     let mut out = Vec::new(alloc);
     put_line(&mut out, "am2", &[Text("report"), Text("1")])?;
-    put_journal(&mut out, entries)?;
-    put_ends(&mut out, &table, ends)?;
+    put_count(&mut out, entries)?;
+    walk(&mut out, &mut runs, &mut heard, entries)?;
+    put_ends(&mut out, &runs, ends)?;
+    let messages = heard.told(alloc)?;
     put_messages(&mut out, &messages)?;
     Ok(out)
 }
@@ -215,9 +246,10 @@ fn text(alloc: Global, ends: &[EndpointId], entries: &[&Entry]) -> Result<Vec<u8
 /// lines, the runs at each endpoint, each accepted message with its fate in ascending order of source and count, and
 /// how many messages have each fate (`report` of `specs/Report.antt`). It is exact for every journal, also for one that
 /// is no history: a serial that is accepted twice has one line there, with the kind of its last acceptance.
-/// It goes over the entries four times, whatever the number of endpoints and messages, with a table of the runs of
-/// each endpoint and one of the messages of each source, in ascending order of count. In a history each message's place
-/// there is known from its count; in another journal it is searched. Where there is no memory it answers `NoMemory`.
+/// It goes over the entries once, whatever the number of endpoints and messages, with a table of the runs of each
+/// endpoint and one of the messages of each source, in ascending order of count, and what was said of fates in order. In
+/// a history each message's place there is known from its count; in another journal it is searched. Where there is no
+/// memory it answers `NoMemory`.
 pub fn report(
     alloc: Global,
     ends: &[EndpointId],
@@ -244,7 +276,7 @@ fn two_lines(alloc: Global, entries: &[&Entry]) -> Result<Vec<u8>, AllocError>
 
 /// The second line of a journal's report and its last line, whatever the endpoints: how many entries there are, and how
 /// many messages have each fate (`summary` of `specs/Report.antt`). It is exact for every journal.
-/// It goes over the entries twice. Where there is no memory it answers `NoMemory`.
+/// It goes over the entries once. Where there is no memory it answers `NoMemory`.
 pub fn summary(alloc: Global, journal: &LoggedJournal) -> Result<Vec<u8>, NoMemory>
     ensures { IfOk result (λ bytes. bytes.items ≡ text.summary journal.now) }
 {
@@ -256,7 +288,7 @@ pub fn summary(alloc: Global, journal: &LoggedJournal) -> Result<Vec<u8>, NoMemo
 
 /// The accepted messages of a journal, each serial once, in ascending order of source and count, with their fates: those of
 /// the report's lines of messages (`told` of `specs/Report.antt`). It is exact for every journal.
-/// It goes over the entries twice. Where there is no memory it answers `NoMemory`.
+/// It goes over the entries once. Where there is no memory it answers `NoMemory`.
 pub fn fates(alloc: Global, journal: &LoggedJournal) -> Result<Vec<MessageFate>, NoMemory>
     ensures { IfOk result (λ fates. fates.items ≡ text.told journal.now) }
 {

@@ -91,7 +91,7 @@ impl RunList {
     }
 }
 
-/// The runs of a journal, one list for each endpoint. Contracts see the lists.
+/// The runs of the entries so far, one list for each endpoint. Contracts see the lists.
 #[derive(Drop)]
 pub(crate) struct RunTable {
     lists: Vec<RunList>,
@@ -123,38 +123,27 @@ fn empty_lists(alloc: Global) -> Result<Vec<RunList>, AllocError>
 }
 
 impl RunTable {
-    ghost use Rattle.std.specs.Prelude.{◌≡◌, List, [], OnOk, IfOk, replicate};
+    ghost use Rattle.std.specs.Prelude.{◌≡◌, List, [], OnOk, IfOk};
     ghost use Rattle.am_office_entries.specs.declared.Entry.{Entry};
-    ghost use Rattle.am_office_entries.specs.Logged.Behind.{entries_behind};
     ghost use Rattle.am_office_report.specs.Report.{run_in, runs_at};
     ghost use Rattle.am_office_report.specs.Tables.{with_run, AreRuns};
 
-    fn new(alloc: Global) -> Result<Self, AllocError>
-        ensures { IfOk result (λ table. table ≡ replicate 256 []) }
+    /// The runs of no entries.
+    pub(crate) fn new(alloc: Global) -> Result<Self, AllocError>
+        ensures { IfOk result (λ table. AreRuns table []) }
     {
         let lists = empty_lists(alloc)?;
         Ok(RunTable { lists })
     }
 
-    fn add(&mut self, entry: &Entry) -> Result<(), AllocError>
+    /// Takes in one entry more.
+    pub(crate) fn add(&mut self, entry: &Entry) -> Result<(), AllocError>
         ensures { OnOk result (self.new ≡ with_run self.old (run_in entry.now.event entry.now.outcome)) }
     {
         match run_in(entry) {
             None => Ok(()),
             Some((end, run)) => self.lists[usize::from(end.0)].push(run),
         }
-    }
-
-    /// The runs of a journal.
-    #[tactic(auto, using(am_office_entries::proofs::Entries::length_behind))]
-    pub(crate) fn of(alloc: Global, entries: &[&Entry]) -> Result<Self, AllocError>
-        ensures { IfOk result (λ table. AreRuns table (entries_behind entries.now)) }
-    {
-        let mut table = RunTable::new(alloc)?;
-        for entry in entries {
-            table.add(entry)?;
-        }
-        Ok(table)
     }
 
     /// The runs at an endpoint.

@@ -3,6 +3,7 @@ ghost use Rattle.std.specs.Prelude.{◌≡◌, ℕ, ◌+◌, ◌<◌, ◌≤◌,
 ghost use Rattle.am_names.specs.Names.{same_end};
 ghost use Rattle.am_places.specs.Codes.{frame_at, holder_code, place_code};
 ghost use Rattle.am_places.specs.Rule.{AllWithin, Comes, HasGathered, Met, known_at, joined, holder_word, state_word, word_of, with_known, inside_with, read};
+ghost use Rattle.am_places.specs.Seats.{SitsAt, StaysSeated, hand_of, me_of, pass_of};
 
 use crate::book::Book;
 use crate::places::{Busy, Entered, Places, Seat, Seen};
@@ -34,12 +35,12 @@ impl<B: Book + Send + Drop> Places<B> {
     /// }
     /// ```
     pub fn try_enter(&self, seat: &mut Seat<B>, end: EndpointId) -> Result<Entered<B>, Busy>
-        requires seat { seat.old.token.table_id ≡ self.now.board.shared.table_id }
+        requires seat { SitsAt self.now seat.old }
         requires known { Contains self.now.ids.items end }
-        ensures seat { (seat.new.token.table_id ≡ seat.old.token.table_id) × (seat.new.mark ≡ seat.old.mark) }
-        ensures book { IfOk result (λ e. (log : List _) × (slice_get self.now.ids.items e.at ≡ Some end) × Comes B.items B.birth B.stands B.moves e.at seat.old.token.me log e.book × (seat.new.token.me ≡ (with_known e.at (inside_with (B.stands e.book) log (known_at e.at seat.old.token.me.0)) seat.old.token.me.0, (e.at, None) ∷ seat.old.token.me.1))) }
+        ensures seat { StaysSeated seat.old seat.new }
+        ensures book { IfOk result (λ e. (log : List _) × (slice_get self.now.ids.items e.at ≡ Some end) × Comes B.items B.birth B.stands B.moves e.at (me_of seat.old) log e.book × (me_of seat.new ≡ (with_known e.at (inside_with (B.stands e.book) log (known_at e.at (pass_of seat.old))) (pass_of seat.old), (e.at, None) ∷ hand_of seat.old))) }
         ensures frame { IfOk result (λ e. e.frame ≡ frame_at (B.stands e.book)) }
-        ensures busy { IfErr result (λ b. (at : ℕ) × (slice_get self.now.ids.items at ≡ Some end) × Met at (b.holder + 1) seat.old.token.me.0 × (seat.new.token.me ≡ (read (holder_word at) (b.holder + 1) seat.old.token.me.0, seat.old.token.me.1))) }
+        ensures busy { IfErr result (λ b. (at : ℕ) × (slice_get self.now.ids.items at ≡ Some end) × Met at (b.holder + 1) (pass_of seat.old) × (me_of seat.new ≡ (read (holder_word at) (b.holder + 1) (pass_of seat.old), hand_of seat.old))) }
     {
         let at = self.position_of(end);
         self.try_enter_at(seat, at)
@@ -51,13 +52,13 @@ impl<B: Book + Send + Drop> Places<B> {
     /// let length = places.look(&mut seat, EndpointId(7)).count;
     /// ```
     pub fn look(&self, seat: &mut Seat<B>, end: EndpointId) -> Seen
-        requires seat { seat.old.token.table_id ≡ self.now.board.shared.table_id }
+        requires seat { SitsAt self.now seat.old }
         requires known { Contains self.now.ids.items end }
-        ensures seat { (seat.new.token.table_id ≡ seat.old.token.table_id) × (seat.new.mark ≡ seat.old.mark) }
+        ensures seat { StaysSeated seat.old seat.new }
         ensures seen { (at : ℕ) × (slice_get self.now.ids.items at ≡ Some end)
-            × (seat.new.token.me ≡ (read (state_word at) (word_of (place_code result.place) result.count) (read (holder_word at) (holder_code result.holder) seat.old.token.me.0), seat.old.token.me.1))
-            × (length (joined (known_at at seat.old.token.me.0).seen) ≤ result.count) × AllWithin result.count (known_at at seat.old.token.me.0).others }
-        ensures holder { holder_code result.holder ≤ seat.old.token.me.0.seats }
+            × (me_of seat.new ≡ (read (state_word at) (word_of (place_code result.place) result.count) (read (holder_word at) (holder_code result.holder) (pass_of seat.old)), hand_of seat.old))
+            × (length (joined (known_at at (pass_of seat.old)).seen) ≤ result.count) × AllWithin result.count (known_at at (pass_of seat.old)).others }
+        ensures holder { holder_code result.holder ≤ (pass_of seat.old).seats }
     {
         let at = self.position_of(end);
         self.look_at(seat, at)
@@ -65,12 +66,12 @@ impl<B: Book + Send + Drop> Places<B> {
 
     /// The book, once, where every other seat is gathered. None where this seat took it out before.
     pub fn take_out(&self, seat: &mut Seat<B>, end: EndpointId) -> Option<B>
-        requires seat { seat.old.token.table_id ≡ self.now.board.shared.table_id }
+        requires seat { SitsAt self.now seat.old }
         requires known { Contains self.now.ids.items end }
-        requires gathered { HasGathered seat.old.token.me.0 }
-        ensures seat { (seat.new.token.table_id ≡ seat.old.token.table_id) × (seat.new.mark ≡ seat.old.mark) }
-        ensures twice { IfNone result ((at : ℕ) × (slice_get self.now.ids.items at ≡ Some end) × ((known_at at seat.old.token.me.0).inside ≡ true) × (seat.new.token.me ≡ (read (holder_word at) seat.old.mark seat.old.token.me.0, seat.old.token.me.1))) }
-        ensures book { IfSome result (λ b. (at : ℕ) × (log : List _) × (slice_get self.now.ids.items at ≡ Some end) × Comes B.items B.birth B.stands B.moves at seat.old.token.me log b × (seat.new.token.me ≡ (with_known at (inside_with (B.stands b) log (known_at at seat.old.token.me.0)) seat.old.token.me.0, (at, None) ∷ seat.old.token.me.1))) }
+        requires gathered { HasGathered (pass_of seat.old) }
+        ensures seat { StaysSeated seat.old seat.new }
+        ensures twice { IfNone result ((at : ℕ) × (slice_get self.now.ids.items at ≡ Some end) × ((known_at at (pass_of seat.old)).inside ≡ true) × (me_of seat.new ≡ (read (holder_word at) seat.old.mark (pass_of seat.old), hand_of seat.old))) }
+        ensures book { IfSome result (λ b. (at : ℕ) × (log : List _) × (slice_get self.now.ids.items at ≡ Some end) × Comes B.items B.birth B.stands B.moves at (me_of seat.old) log b × (me_of seat.new ≡ (with_known at (inside_with (B.stands b) log (known_at at (pass_of seat.old))) (pass_of seat.old), (at, None) ∷ hand_of seat.old))) }
     {
         let at = self.position_of(end);
         self.take_out_at(seat, at)

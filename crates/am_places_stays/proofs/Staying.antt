@@ -10,7 +10,7 @@ use Rattle.atomic_table.specs.Table.{rest}
 use Rattle.atomic_table.specs.Seated.{TableId}
 use Rattle.am_names.specs.declared.EndpointId.{EndpointId}
 use Rattle.am_places.specs.Rule.{Begins, Comes, FrameFits, added, joined, known_at, with_known, inside_with, published_with, outside, nothing}
-use Rattle.am_places.specs.Rule.{numbered, opened, opener, stirs, tenure, with_frame}
+use Rattle.am_places.specs.Rule.{seat_numbered, opened, opener, stirs, tenure, with_frame}
 use Rattle.am_places.specs.declared.board.Known.{Known}
 use Rattle.am_places.specs.declared.board.Pass.{Pass}
 use Rattle.am_places.specs.declared.board.Tenure.{Tenure}
@@ -204,7 +204,7 @@ module _ {B I T : Type 0} (items : B → List I) (birth : B → T) (stands : B �
   began_so (c ∷ bs) (suc j) b at = began_so bs j b at
 
   pub is_new : (books : List B) (ids : List EndpointId) (k seats frames : ℕ) (id : TableId) (token : S) → token.table_id ≡ id →
-      length token.me.0.frames ≡ frames → token.me ≡ (numbered k (opener items birth stands moves books ids seats frames), []) →
+      length token.me.0.frames ≡ frames → token.me ≡ (seat_numbered k (opener items birth stands moves books ids seats frames), []) →
       IsNew items id books k seats frames token
   is_new books ids k seats frames id token same framed is = let u = ap (λ m. m.0) is in record {
     waiting = record {

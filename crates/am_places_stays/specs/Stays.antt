@@ -4,7 +4,7 @@ use mathlib.Core.Option.{some}
 use lib.ListN.{get_elem?}
 use Rattle.atomic_table.specs.declared.shared.Seat.{Seat}
 use Rattle.atomic_table.specs.Seated.{TableId}
-use Rattle.am_places.specs.Rule.{Begins, FrameFits, IsOutside, joined, known_at, stirs, tenure}
+use Rattle.am_places.specs.Rule.{Begins, FrameFits, IsOutside, joined, known_at, stirs, tenure, hand_in, pass_in}
 use Rattle.am_places.specs.declared.board.Pass.{Pass}
 use Rattle.am_places.specs.declared.board.Tenure.{Tenure}
 
@@ -42,37 +42,37 @@ module _ {B I T : Type 0} where
   -- the seat holds no book, and has gathered no other seat
   pub record IsWaiting (id : TableId) (token : Token B I T) : Type 0 where
     pub table : token.table_id ≡ id
-    pub hand : token.me.1 ≡ []
-    pub outside : IsOutside token.me.0
-    pub keeps : token.me.0.keeps ≡ token.me.0.mark ∷ []
-    pub own : (k : ℕ) → AllBy token.me.0.mark (known_at k token.me.0).made
+    pub hand : hand_in token ≡ []
+    pub outside : IsOutside (pass_in token)
+    pub keeps : (pass_in token).keeps ≡ (pass_in token).mark ∷ []
+    pub own : (k : ℕ) → AllBy (pass_in token).mark (known_at k (pass_in token)).made
 
 module _ {B I T : Type 0} (items : B → List I) where
   -- the seat of the number k among so many, which was just made with places for these books and so many frames
   pub record IsNew (id : TableId) (books : List B) (k seats frames : ℕ) (token : Token B I T) : Type 0 where
     pub waiting : IsWaiting id token
-    pub mark : token.me.0.mark ≡ k + 1
-    pub all_seats : token.me.0.seats ≡ seats
-    pub all_frames : length token.me.0.frames ≡ frames
-    pub added : (j : ℕ) → added_at j token.me.0 ≡ []
-    pub began : (j : ℕ) (b : B) → get_elem? books j ≡ some b → BeganWith j (items b) token.me.0
+    pub mark : (pass_in token).mark ≡ k + 1
+    pub all_seats : (pass_in token).seats ≡ seats
+    pub all_frames : length (pass_in token).frames ≡ frames
+    pub added : (j : ℕ) → added_at j (pass_in token) ≡ []
+    pub began : (j : ℕ) (b : B) → get_elem? books j ≡ some b → BeganWith j (items b) (pass_in token)
 
 module _ {B I T : Type 0} (items : B → List I) (birth : B → T) (stands : B → ℕ) (moves : I → Bool) where
   -- the seat is inside the endpoint at this position alone, with this book, which begins with all that it has seen there. Only the
   -- last seat, the driver's, has moved the book or added an item that moves
   pub record IsInside (id : TableId) (at : ℕ) (token : Token B I T) (book : B) : Type 0 where
     pub table : token.table_id ≡ id
-    pub hand : token.me.1 ≡ (at, None) ∷ []
-    pub inside : (known_at at token.me.0).inside ≡ true
-    pub elsewhere : (k : ℕ) → k ≢ at → k < length token.me.0.known → (known_at k token.me.0).inside ≡ false
-    pub keeps : token.me.0.keeps ≡ token.me.0.mark ∷ []
-    pub own : (k : ℕ) → AllBy token.me.0.mark (known_at k token.me.0).made
-    pub born : get_elem? token.me.0.births at ≡ some (birth book)
-    pub grown : Begins (items book) (seen_at at token.me.0)
-    pub stays : token.me.0.mark ≢ token.me.0.seats → stands book ≡ (known_at at token.me.0).place
-    pub still : token.me.0.mark ≢ token.me.0.seats → stirs moves (drop (length (seen_at at token.me.0)) (items book)) ≡ false
+    pub hand : hand_in token ≡ (at, None) ∷ []
+    pub inside : (known_at at (pass_in token)).inside ≡ true
+    pub elsewhere : (k : ℕ) → k ≢ at → k < length (pass_in token).known → (known_at k (pass_in token)).inside ≡ false
+    pub keeps : (pass_in token).keeps ≡ (pass_in token).mark ∷ []
+    pub own : (k : ℕ) → AllBy (pass_in token).mark (known_at k (pass_in token)).made
+    pub born : get_elem? (pass_in token).births at ≡ some (birth book)
+    pub grown : Begins (items book) (seen_at at (pass_in token))
+    pub stays : (pass_in token).mark ≢ (pass_in token).seats → stands book ≡ (known_at at (pass_in token)).place
+    pub still : (pass_in token).mark ≢ (pass_in token).seats → stirs moves (drop (length (seen_at at (pass_in token))) (items book)) ≡ false
     pub small : stands book < 256
-    pub fits : token.me.0.mark ≡ token.me.0.seats → FrameFits token.me.0.frames at (stands book)
+    pub fits : (pass_in token).mark ≡ (pass_in token).seats → FrameFits (pass_in token).frames at (stands book)
 
 -- the third list has the items of both others, each once and in order
 abbrev pub IsMerge : {X : Type 0} → List X → List X → List X → Type 0

@@ -1,5 +1,6 @@
 //! The end of two seats.
 ghost use Rattle.std.specs.Prelude.{◌≡◌, ◌<◌, ◌++◌, List};
+ghost use Rattle.am_places.specs.Seats.{pass_of, table_in};
 ghost use Rattle.am_places_stays.specs.Stays.{BeganWith, IsMerge, IsWaiting, added_at};
 
 use am_places::{Book, Places, Seat};
@@ -18,10 +19,10 @@ pub fn end_two<B: Book + Send + Drop>(
     at: usize,
 ) -> B
     requires at { at < places.now.count }
-    requires keeper { IsWaiting places.now.board.shared.table_id keeper.token }
-    requires other { IsWaiting places.now.board.shared.table_id other.token }
-    requires marks { (keeper.token.me.0.mark ≡ 2) × (keeper.token.me.0.seats ≡ 2) × (other.token.me.0.mark ≡ 1) }
-    ensures { (xs : List B.Item) → BeganWith at xs keeper.token.me.0 → (ys : List B.Item) × (B.items result ≡ xs ++ ys) × IsMerge (added_at at other.token.me.0) (added_at at keeper.token.me.0) ys }
+    requires keeper { IsWaiting (table_in places.now) keeper.token }
+    requires other { IsWaiting (table_in places.now) other.token }
+    requires marks { ((pass_of keeper).mark ≡ 2) × ((pass_of keeper).seats ≡ 2) × ((pass_of other).mark ≡ 1) }
+    ensures { (xs : List B.Item) → BeganWith at xs (pass_of keeper) → (ys : List B.Item) × (B.items result ≡ xs ++ ys) × IsMerge (added_at at (pass_of other)) (added_at at (pass_of keeper)) ys }
 {
     places.gather(&mut keeper, other);
     match places.take_out_at(&mut keeper, at) {

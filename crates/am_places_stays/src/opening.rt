@@ -2,6 +2,7 @@
 ghost use Rattle.std.specs.Prelude.{◌≡◌, ℕ, ◌<◌, ◌≤◌, ◌^◌, IfOk, length};
 ghost use mathlib.Core.Option.{some};
 ghost use lib.ListN.{get_elem?};
+ghost use Rattle.am_places.specs.Seats.{table_in};
 ghost use Rattle.am_places_stays.specs.Stays.{IsNew};
 
 use am_names::{EndpointId, NoMemory};
@@ -30,7 +31,7 @@ pub fn open<B: Book + Send + Drop>(
     requires homely { (k : ℕ) (b : B) → get_elem? books.items k ≡ some b → B.stands b < 2 }
     ensures places { IfOk result (λ r. (r.0.ids.items ≡ ids.items) × (r.0.count ≡ length books.items) × (r.0.frames ≡ frames)) }
     ensures many { IfOk result (λ r. length r.1.items ≡ seats) }
-    ensures seats { IfOk result (λ r. (k : ℕ) (s : _) → get_elem? r.1.items k ≡ some s → IsNew B.items r.0.board.shared.table_id books.items k seats frames s.token) }
+    ensures seats { IfOk result (λ r. (k : ℕ) (s : _) → get_elem? r.1.items k ≡ some s → IsNew B.items (table_in r.0) books.items k seats frames s.token) }
 {
     let (places, list) = Places::new(alloc, books, ids, frames, seats)?;
     Ok((places, list))
@@ -47,8 +48,8 @@ pub fn open_two<B: Book + Send + Drop>(
     requires few { (length books.items < 2 ^ 32) × (frames ≤ 16) }
     requires homely { (k : ℕ) (b : B) → get_elem? books.items k ≡ some b → B.stands b < 2 }
     ensures places { IfOk result (λ r. (r.0.ids.items ≡ ids.items) × (r.0.count ≡ length books.items) × (r.0.frames ≡ frames)) }
-    ensures first { IfOk result (λ r. IsNew B.items r.0.board.shared.table_id books.items 0 2 frames r.1.token) }
-    ensures second { IfOk result (λ r. IsNew B.items r.0.board.shared.table_id books.items 1 2 frames r.2.token) }
+    ensures first { IfOk result (λ r. IsNew B.items (table_in r.0) books.items 0 2 frames r.1.token) }
+    ensures second { IfOk result (λ r. IsNew B.items (table_in r.0) books.items 1 2 frames r.2.token) }
 {
     let (places, mut seats) = open(alloc, books, ids, frames, 2)?;
     let Some(second) = seats.pop() else {

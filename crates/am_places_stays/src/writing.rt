@@ -1,5 +1,6 @@
 //! A stay that adds one item.
 ghost use Rattle.std.specs.Prelude.{◌≡◌, ◌≢◌, ℕ, ◌<◌, ◌≤◌, ◌++◌, [], ◌∷◌, All, List, false, if◌then◌else◌, length, take};
+ghost use Rattle.am_places.specs.Seats.{pass_of, table_in};
 ghost use Rattle.am_places_stays.specs.Stays.{IsWaiting, KeepsBeginnings, SameSeat, added_at};
 
 use crate::stays::{enter, leave};
@@ -39,14 +40,14 @@ pub fn write<B: Grow + Send + Drop>(
 ) -> bool
 where
     B::Item: Drop,
-    requires waiting { IsWaiting places.now.board.shared.table_id seat.old.token }
+    requires waiting { IsWaiting (table_in places.now) seat.old.token }
     requires at { at < places.now.count }
     requires still { B.moves item ≡ false }
-    ensures seat { SameSeat seat.old.token.me.0 seat.new.token.me.0 }
-    ensures waiting { IsWaiting places.now.board.shared.table_id seat.new.token }
-    ensures added { added_at at seat.new.token.me.0 ≡ added_at at seat.old.token.me.0 ++ (if result then item ∷ [] else []) }
-    ensures elsewhere { (k : ℕ) → k ≢ at → added_at k seat.new.token.me.0 ≡ added_at k seat.old.token.me.0 }
-    ensures began { KeepsBeginnings seat.old.token.me.0 seat.new.token.me.0 }
+    ensures seat { SameSeat (pass_of seat.old) (pass_of seat.new) }
+    ensures waiting { IsWaiting (table_in places.now) seat.new.token }
+    ensures added { added_at at (pass_of seat.new) ≡ added_at at (pass_of seat.old) ++ (if result then item ∷ [] else []) }
+    ensures elsewhere { (k : ℕ) → k ≢ at → added_at k (pass_of seat.new) ≡ added_at k (pass_of seat.old) }
+    ensures began { KeepsBeginnings (pass_of seat.old) (pass_of seat.new) }
 {
     let Ok(mut entered) = enter(places, seat, at) else {
         return false;
@@ -66,16 +67,16 @@ fn write_next<B: Grow + Send + Drop>(
 ) -> usize
 where
     B::Item: Copy,
-    requires waiting { IsWaiting places.now.board.shared.table_id seat.old.token }
+    requires waiting { IsWaiting (table_in places.now) seat.old.token }
     requires at { at < places.now.count }
     requires still { All (λ item. B.moves item ≡ false) items.now }
     requires done { done ≤ length items.now }
-    ensures seat { SameSeat seat.old.token.me.0 seat.new.token.me.0 }
-    ensures waiting { IsWaiting places.now.board.shared.table_id seat.new.token }
+    ensures seat { SameSeat (pass_of seat.old) (pass_of seat.new) }
+    ensures waiting { IsWaiting (table_in places.now) seat.new.token }
     ensures most { result ≤ length items.now }
-    ensures added { (xs : List B.Item) → added_at at seat.old.token.me.0 ≡ xs ++ take done items.now → added_at at seat.new.token.me.0 ≡ xs ++ take result items.now }
-    ensures elsewhere { (k : ℕ) → k ≢ at → added_at k seat.new.token.me.0 ≡ added_at k seat.old.token.me.0 }
-    ensures began { KeepsBeginnings seat.old.token.me.0 seat.new.token.me.0 }
+    ensures added { (xs : List B.Item) → added_at at (pass_of seat.old) ≡ xs ++ take done items.now → added_at at (pass_of seat.new) ≡ xs ++ take result items.now }
+    ensures elsewhere { (k : ℕ) → k ≢ at → added_at k (pass_of seat.new) ≡ added_at k (pass_of seat.old) }
+    ensures began { KeepsBeginnings (pass_of seat.old) (pass_of seat.new) }
 {
     if done == items.len() {
         return done;
@@ -102,15 +103,15 @@ pub fn write_all<B: Grow + Send + Drop>(
 ) -> (Seat<B>, usize)
 where
     B::Item: Copy,
-    requires waiting { IsWaiting places.now.board.shared.table_id seat.token }
+    requires waiting { IsWaiting (table_in places.now) seat.token }
     requires at { at < places.now.count }
     requires still { All (λ item. B.moves item ≡ false) items.now }
-    ensures seat { SameSeat seat.token.me.0 result.0.token.me.0 }
-    ensures waiting { IsWaiting places.now.board.shared.table_id result.0.token }
+    ensures seat { SameSeat (pass_of seat) (pass_of result.0) }
+    ensures waiting { IsWaiting (table_in places.now) result.0.token }
     ensures most { result.1 ≤ length items.now }
-    ensures added { added_at at result.0.token.me.0 ≡ added_at at seat.token.me.0 ++ take result.1 items.now }
-    ensures elsewhere { (k : ℕ) → k ≢ at → added_at k result.0.token.me.0 ≡ added_at k seat.token.me.0 }
-    ensures began { KeepsBeginnings seat.token.me.0 result.0.token.me.0 }
+    ensures added { added_at at (pass_of result.0) ≡ added_at at (pass_of seat) ++ take result.1 items.now }
+    ensures elsewhere { (k : ℕ) → k ≢ at → added_at k (pass_of result.0) ≡ added_at k (pass_of seat) }
+    ensures began { KeepsBeginnings (pass_of seat) (pass_of result.0) }
 {
     let mut seat = seat;
     let mut done = 0;

@@ -8,7 +8,8 @@ ghost use Rattle.am_segment_pieces.specs.Segments.{segment_bytes};
 
 use crate::expansion::Expanded;
 use crate::hex::put_byte;
-use am_office_entries::{Journal, NoMemory};
+use am_office_entries::NoMemory;
+use am_office_entries::logged::LoggedJournal;
 use am_office_text::LinePiece::Text;
 use am_office_text::{count, put_end, put_line, small};
 use am_segment_pieces::{SegmentLine, TransferRan, segment_bytes, transfers_ran};
@@ -57,7 +58,7 @@ fn put_rows(out: &mut Vec<u8>, bytes: &[u8]) -> Result<(), AllocError>
 fn put_segment(
     alloc: Global,
     out: &mut Vec<u8>,
-    journal: &Journal,
+    journal: &LoggedJournal,
     segment: &SegmentLine,
 ) -> Result<(), NoMemory>
     ensures { OnOk result (out.new.items ≡ out.old.items ++ segment_part journal.now segment.now) }
@@ -83,7 +84,7 @@ fn segment_of(segments: &[SegmentLine], end: u8) -> Option<SegmentLine>
 fn put_part(
     alloc: Global,
     out: &mut Vec<u8>,
-    journal: &Journal,
+    journal: &LoggedJournal,
     segment: Option<SegmentLine>,
 ) -> Result<(), NoMemory>
     ensures { OnOk result (out.new.items ≡ out.old.items ++ part_of journal.now segment) }
@@ -119,7 +120,7 @@ fn put_transfers(out: &mut Vec<u8>, rows: &[TransferRan]) -> Result<(), AllocErr
 fn put_segments(
     alloc: Global,
     out: &mut Vec<u8>,
-    journal: &Journal,
+    journal: &LoggedJournal,
     segments: &[SegmentLine],
 ) -> Result<(), NoMemory>
     ensures { OnOk result (out.new.items ≡ out.old.items ++ parts_below journal.now segments.now 256) }
@@ -136,7 +137,7 @@ fn put_segments(
 pub fn segments_text(
     alloc: Global,
     expanded: &Expanded,
-    journal: &Journal,
+    journal: &LoggedJournal,
 ) -> Result<Vec<u8>, NoMemory>
     requires { length expanded.now.transfers < 2 ^ 32 }
     ensures { IfOk result (λ text. text.items ≡ segments_text expanded.now journal.now) }

@@ -1,5 +1,5 @@
 -- The runs of one entry more, and the pieces that ran.
-use Rattle.std.proofs.Common.{◌≡◌, ℕ, ◌<◌, ◌≤◌, ◌+◌, Bool, true, false, ◌&&◌, ◌||◌, cond, Option, Some, None, List, [], ◌∷◌, ◌++◌, refl, sym, ap, ◌∙◌, zero-add}
+use Rattle.std.proofs.Common.{◌≡◌, ℕ, ◌<◌, ◌≤◌, ◌+◌, Bool, true, false, ◌&&◌, ◌||◌, cond, Option, Some, None, List, [], ◌∷◌, ◌++◌, refl, sym, ap, ◌∙◌, zero-add, arith}
 use Rattle.std.proofs.Common.{count_by, map, length, take, drop, get_or, nat_eq, if◌then◌else◌, add-one}
 use Rattle.std.specs.List.{range_with_len}
 use Rattle.std.proofs.lemmas.List.FromFn.{sum_by-map-range_with_len_more}
@@ -17,7 +17,10 @@ use Rattle.am_office_entries.specs.declared.Event.{Event}
 use Rattle.am_office_entries.specs.declared.Event.TheVariants as Events
 use Rattle.am_office_entries.specs.declared.Outcome.{Outcome}
 use Rattle.am_office_entries.specs.declared.Outcome.TheVariants as Out
+use Rattle.std.specs.Borrow.{Bor}
 use Rattle.am_office_entries.specs.declared.Entry.{Entry}
+use Rattle.am_office_entries.specs.Logged.Behind.{entries_behind}
+use Rattle.am_office_entries.proofs.Entries.{behind_at, length_behind}
 use Rattle.am_segment_pieces.specs.declared.ran.Run.{Run}
 use Rattle.am_segment_pieces.specs.declared.ran.TransferRan.{TransferRan}
 use Rattle.am_segment_pieces.specs.declared.segment.SegmentLine.{SegmentLine}
@@ -66,6 +69,23 @@ tells_some set new added xs i d below some put tells = record {
       ∙ sym (key_next xs i d run below ∙ ap (λ (o : Option Run). has_key (take i xs) run || (is_key run o || false)) some
       ∙ or_some (has_key (take i xs) run) (same_run added run));
 }
+
+-- ---- the same behind references
+
+pub tells_none_behind : (set : Set) (xs : List (Bor Entry)) (i : ℕ) (d : Bor Entry) → i < length xs →
+    key_in (get_or xs i d).now.event (get_or xs i d).now.outcome ≡ None → TellsRuns set (take i (entries_behind xs)) →
+    TellsRuns set (take (i + 1) (entries_behind xs))
+tells_none_behind set xs i d below none tells =
+    tells_none set (entries_behind xs) i d.now (omega (arith, length_behind xs, below))
+    (ap (λ (e : Entry). key_in e.event e.outcome) (behind_at xs i d d.now below) ∙ none) tells
+
+pub tells_some_behind : (set new : Set) (added : Run) (xs : List (Bor Entry)) (i : ℕ) (d : Bor Entry) → i < length xs →
+    key_in (get_or xs i d).now.event (get_or xs i d).now.outcome ≡ Some added →
+    ((run : Run) → contains same_run new run ≡ cond (same_run added run) true (contains same_run set run)) → TellsRuns set (take i (entries_behind xs)) →
+    TellsRuns new (take (i + 1) (entries_behind xs))
+tells_some_behind set new added xs i d below some put tells =
+    tells_some set new added (entries_behind xs) i d.now (omega (arith, length_behind xs, below))
+    (ap (λ (e : Entry). key_in e.event e.outcome) (behind_at xs i d d.now below) ∙ some) put tells
 
 -- ---- a run with these words
 

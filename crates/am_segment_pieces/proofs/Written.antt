@@ -1,12 +1,15 @@
 -- The bytes of a segment after one entry more.
-use Rattle.std.proofs.Common.{◌≡◌, ℕ, ◌<◌, ◌+◌, ◌-◌, Bool, true, false, Option, Some, None, List, [], ◌∷◌, ◌++◌, refl, sym, ap, ◌∙◌, length, take, map, get_or}
+use Rattle.std.proofs.Common.{◌≡◌, ℕ, ◌<◌, ◌+◌, ◌-◌, Bool, true, false, Option, Some, None, List, [], ◌∷◌, ◌++◌, refl, sym, ap, ◌∙◌, length, take, map, get_or, arith}
 use Rattle.std.proofs.Common.{slice_index, reverse, filter_map, find, if◌then◌else◌, add-one, zero-add, replicate}
 use Rattle.std.specs.List.{cons_option, range_with_len}
 use Rattle.std.proofs.lemmas.List.{append-nil, reverse-append, same_lists, get_or_default, get_or-replicate, length-replicate}
 use Rattle.std.proofs.lemmas.List.FromFn.{length-map-range_with_len, get_or-map-range_with_len}
 use Rattle.std.proofs.lemmas.List.Elements.{filter_map-append}
 use Rattle.std.proofs.Math.Seq.{take-suc}
+use Rattle.std.specs.Borrow.{Bor}
 use Rattle.am_office_entries.specs.declared.Entry.{Entry}
+use Rattle.am_office_entries.specs.Logged.Behind.{entries_behind}
+use Rattle.am_office_entries.proofs.Entries.{behind_at, length_behind}
 use Rattle.am_segment_pieces.specs.declared.parts.Piece.{Piece}
 use Rattle.am_segment_pieces.specs.declared.segment.SegmentLine.{SegmentLine}
 use Rattle.am_segment_pieces.specs.Segments.{written_by, covers, byte_of, byte_at, byte_after, after_write, segment_bytes}
@@ -54,6 +57,14 @@ holds_next s bytes new xs i d below same wrote holds =
       each = λ (place : ℕ) (small : place < s.size).
           wrote place ∙ ap (after_write (written_by s (get_or xs i d)) place) (holds.each place small) ∙ sym (byte_at_next s (take i xs) (get_or xs i d) place);
     })
+
+-- the same behind references
+pub holds_next_behind : (s : SegmentLine) (bytes new : List ℕ) (xs : List (Bor Entry)) (i : ℕ) (d : Bor Entry) → i < length xs → length new ≡ length bytes →
+    ((place : ℕ) → slice_index new place ≡ after_write (written_by s (get_or xs i d).now) place (slice_index bytes place)) →
+    Holds s bytes (take i (entries_behind xs)) → Holds s new (take (i + 1) (entries_behind xs))
+holds_next_behind s bytes new xs i d below same wrote holds =
+    holds_next s bytes new (entries_behind xs) i d.now (omega (arith, length_behind xs, below)) same
+    (λ place. wrote place ∙ ap (λ (e : Entry). after_write (written_by s e) place (slice_index bytes place)) (sym (behind_at xs i d d.now below))) holds
 
 pub holds_start : (s : SegmentLine) (bytes : List ℕ) → bytes ≡ replicate s.size 0 → Holds s bytes []
 holds_start s bytes zeros = rw zeros (holds_nothing s)

@@ -2,6 +2,7 @@
 
 ghost use Rattle.std.specs.Prelude.{◌≡◌, ◌≤◌, ◌<◌, ◌+◌, ◌^◌, List, IfOk, if◌then◌else◌, length};
 ghost use Rattle.am_office_entries.specs.declared.Entry.{Entry};
+ghost use Rattle.am_office_entries.specs.Logged.Behind.{entries_behind};
 ghost use Rattle.am_segment_pieces.specs.Pieces.{words_of};
 ghost use Rattle.am_segment_pieces.specs.Segments.{has_run, ran_count, ran_from, ran_of, segment_of};
 ghost use Rattle.am_segment_pieces.specs.Runs.{TellsRuns, key_in, run_key};
@@ -10,7 +11,8 @@ use crate::parts::Piece;
 use crate::segment::SegmentLine;
 use crate::transfer::Transfer;
 use am_names::{EndpointId, Words};
-use am_office_entries::{Call, Entry, Event, Journal, NoMemory, Outcome};
+use am_office_entries::logged::LoggedJournal;
+use am_office_entries::{Call, Entry, Event, NoMemory, Outcome};
 use std::alloc::Global;
 use std::collections::HashSet;
 
@@ -72,8 +74,8 @@ fn run_in(entry: &Entry) -> Option<Run>
 }
 
 // All runs of the entries.
-fn runs(alloc: Global, entries: &[Entry]) -> Result<HashSet<Run>, NoMemory>
-    ensures { IfOk result (λ set. TellsRuns set entries.now) }
+fn runs(alloc: Global, entries: &[&Entry]) -> Result<HashSet<Run>, NoMemory>
+    ensures { IfOk result (λ set. TellsRuns set (entries_behind entries.now)) }
 {
     let mut set = HashSet::new(alloc);
     for entry in entries {
@@ -146,14 +148,14 @@ fn ran_of(
 /// and of its handler. `NoMemory` leaves all as it is.
 pub fn transfers_ran(
     alloc: Global,
-    journal: &Journal,
+    journal: &LoggedJournal,
     segments: &[SegmentLine],
     transfers: &[Transfer],
 ) -> Result<Vec<TransferRan>, NoMemory>
     requires { length transfers.now < 2 ^ 32 }
     ensures { IfOk result (λ rows. rows.items ≡ ran_from segments.now journal.now 1 transfers.now) }
 {
-    let runs = runs(alloc, &journal.entries)?;
+    let runs = runs(alloc, journal.entries())?;
     let mut rows = Vec::new(alloc);
     let mut number: u32 = 0;
     for transfer in transfers {

@@ -1,12 +1,14 @@
 //! A segment of an endpoint: the bytes that the runs of one handler wrote.
 
 ghost use Rattle.std.specs.Prelude.{◌≡◌, ◌≤◌, ◌<◌, ◌+◌, ℕ, IfOk, IfSome, length, replicate, slice_index};
+ghost use Rattle.am_office_entries.specs.Logged.Behind.{entries_behind};
 ghost use Rattle.am_segment_pieces.specs.Segments.{after_write, byte_after, run_words, segment_bytes, written_by};
 
 use crate::decode::piece;
 use crate::parts::Piece;
 use am_names::{EndpointId, Words};
-use am_office_entries::{Call, Entry, Event, Journal, NoMemory, Outcome};
+use am_office_entries::logged::LoggedJournal;
+use am_office_entries::{Call, Entry, Event, NoMemory, Outcome};
 use std::alloc::Global;
 
 /// A segment of an endpoint: the pieces that run one of its handlers are written there.
@@ -79,9 +81,9 @@ fn take_entry(bytes: &mut [u8], segment: &SegmentLine, entry: &Entry)
 }
 
 // Writes what the entries write, one after the other.
-fn take_entries(bytes: &mut [u8], segment: &SegmentLine, entries: &[Entry])
+fn take_entries(bytes: &mut [u8], segment: &SegmentLine, entries: &[&Entry])
     requires { bytes.old ≡ replicate segment.now.size 0 }
-    ensures { bytes.new ≡ segment_bytes segment.now entries.now }
+    ensures { bytes.new ≡ segment_bytes segment.now (entries_behind entries.now) }
 {
     for entry in entries {
         take_entry(bytes, segment, entry);
@@ -93,12 +95,12 @@ fn take_entries(bytes: &mut [u8], segment: &SegmentLine, entries: &[Entry])
 /// the journal and the segment as they are.
 pub fn segment_bytes(
     alloc: Global,
-    journal: &Journal,
+    journal: &LoggedJournal,
     segment: &SegmentLine,
 ) -> Result<Vec<u8>, NoMemory>
     ensures { IfOk result (λ bytes. bytes.items ≡ segment_bytes segment.now journal.now) }
 {
     let mut bytes = vec![in alloc; 0; segment.size as usize]?;
-    take_entries(&mut bytes, segment, &journal.entries);
+    take_entries(&mut bytes, segment, journal.entries());
     Ok(bytes)
 }

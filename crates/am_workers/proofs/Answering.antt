@@ -10,7 +10,7 @@ use Rattle.am_workers_laws.specs.Phases.Lying.{moves_by}
 use Rattle.am_places.specs.Rule.{joined}
 use Rattle.am_places.specs.declared.board.Tenure.{Tenure}
 use Rattle.am_workers_laws.specs.Invariants.Seats.{EndPass, Stayed, Stays}
-use Rattle.am_workers.specs.Turns.Turns.{IsDue, ThreadFound, ThreadTurns, made_in}
+use Rattle.am_workers.specs.Turns.Turns.{IsCallDue, ThreadFound, ThreadTurns, made_in}
 use Rattle.am_workers.specs.declared.turns.turns.ThreadTurn.{ThreadTurn}
 use Rattle.am_workers.specs.declared.turns.turns.ThreadTurn.TheVariants as Turns
 use Rattle.am_workers_laws.proofs.Staying.{AreStill}
@@ -28,11 +28,11 @@ still_made thread call clock Turns.NoMemory set log h = tt
 -- ---- a call is due
 
 pub due_here : (clock : ℕ) (set : EndSettings) (log : List Entry) → is_on_disk (state_by set log).head.place ≡ false → max clock (last_stamp log) < 2 ^ 63 →
-    IsDue clock set log
+    IsCallDue clock set log
 due_here clock set log here low = record { unwanted = λ on. absurd (true≢false (sym on ∙ here)); low = low }
 
 pub due_away : (clock : ℕ) (set : EndSettings) (log : List Entry) → (state_by set log).head.wanted ≡ false → max clock (last_stamp log) < 2 ^ 63 →
-    IsDue clock set log
+    IsCallDue clock set log
 due_away clock set log unwanted low = record { unwanted = λ on. unwanted; low = low }
 
 -- ---- a stay

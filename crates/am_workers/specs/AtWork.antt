@@ -3,6 +3,7 @@ use Rattle.std.specs.Prelude.{◌≡◌, ◌≢◌, ℕ, ◌<◌, ◌≤◌, tru
 use Rattle.atomic_table.specs.Seated.{TableId}
 use Rattle.am_names.specs.declared.NodeId.{NodeId}
 use Rattle.am_names.specs.declared.Packet.{Packet}
+use Rattle.am_places.specs.Seats.{pass_of}
 use Rattle.am_model.specs.Layout.{node_at}
 use Rattle.am_scenario_types.specs.Lists.{ScenarioLists}
 use Rattle.am_model_scripts.specs.Layout.{layout_of}
@@ -32,7 +33,7 @@ pub record IsThreadAtWork (s : ScenarioLists) (table : TableId) (ids : Ids) (tur
   pub few : length w.script.items ≤ 65536
   pub so_far : ℕ
   pub within : so_far ≤ turns
-  pub works : ThreadWorks s ids w.thread so_far w.next w.clock w.seat.token.me.0
+  pub works : ThreadWorks s ids w.thread so_far w.next w.clock (pass_of w.seat)
 
 -- ---- an interface
 
@@ -86,7 +87,7 @@ pub record IsInterfaceAtWork (s : ScenarioLists) (table : TableId) (ids : Ids) (
   pub within_from : w.from < s.nodes
   pub so_far : ℕ
   pub within : so_far ≤ turns
-  pub works : InterfaceWorks s ids node so_far w.interface.log (sent_by w.outs.items) (taken_by w.ins.items) w.hand w.seat.token.me.0
+  pub works : InterfaceWorks s ids node so_far w.interface.log (sent_by w.outs.items) (taken_by w.ins.items) w.hand (pass_of w.seat)
 
 -- ---- a driver
 
@@ -96,4 +97,4 @@ pub record IsDriverAtWork (s : ScenarioLists) (table : TableId) (ids : Ids) (nod
   pub is_node : w.node ≡ node
   pub so_far : ℕ
   pub within : so_far ≤ turns
-  pub works : DriverWorks s ids node so_far w.clock w.view (device_of w.swap) w.seat.token.me.0
+  pub works : DriverWorks s ids node so_far w.clock w.view (device_of w.swap) (pass_of w.seat)

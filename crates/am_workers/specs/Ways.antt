@@ -5,6 +5,7 @@ use lib.ListN.{get_elem?}
 use Rattle.atomic_table.specs.Seated.{TableId}
 use Rattle.am_names.specs.declared.NodeId.{NodeId}
 use Rattle.am_names.specs.declared.Packet.{Packet}
+use Rattle.am_places.specs.Seats.{pass_of}
 use Rattle.am_endpoint_body.specs.declared.settings.EndSettings.{EndSettings}
 use Rattle.am_iface.specs.Settings.{AreLawful}
 use Rattle.am_scenario_types.specs.Lists.{ScenarioLists}
@@ -46,8 +47,8 @@ pub record Prepares (w u : InterfaceWorker) : Type 0 where
 pub record CanServe (table : TableId) (count : ℕ) (ids : Ids) (w : InterfaceWorker) : Type 0 where
   pub idle : IsIdle table w.seat.token
   pub counted : count ≡ length ids
-  pub guest : w.seat.token.me.0.mark ≢ w.seat.token.me.0.seats
-  pub births : (k : ℕ) (set : EndSettings) → get_elem? w.seat.token.me.0.births k ≡ some set → slice_get ids k ≡ Some set.id
+  pub guest : (pass_of w.seat).mark ≢ (pass_of w.seat).seats
+  pub births : (k : ℕ) (set : EndSettings) → get_elem? (pass_of w.seat).births k ≡ some set → slice_get ids k ≡ Some set.id
   pub lawful : AreLawful w.set
   pub settings : w.set ≡ w.interface.settings
   pub nodes : length w.outs.items ≡ w.interface.settings.nodes
@@ -56,12 +57,12 @@ pub record CanServe (table : TableId) (count : ℕ) (ids : Ids) (w : InterfaceWo
 -- the worker made a turn without a look at its links: what its entry emits was emitted on a link
 pub record Serves (table : TableId) (ids : Ids) (w u : InterfaceWorker) : Type 0 where
   pub idle : IsIdle table u.seat.token
-  pub seat : SameSeat w.seat.token.me.0 u.seat.token.me.0
+  pub seat : SameSeat (pass_of w.seat) (pass_of u.seat)
   pub settings : u.interface.settings ≡ w.interface.settings
   pub set : u.set ≡ w.set
   pub outs : SameOuts w.outs.items u.outs.items
   pub spared : HaveRoomBut u.last u.outs.items
   pub ins : u.ins ≡ w.ins
   pub from_node : u.from ≡ w.from
-  pub works : (s : ScenarioLists) (turns : ℕ) → IsInterfaceOf s w.interface → InterfaceWorks s ids w.interface.settings.node turns w.interface.log (sent_by w.outs.items) (taken_by w.ins.items) w.hand w.seat.token.me.0
-      → InterfaceWorks s ids w.interface.settings.node (turns + 1) u.interface.log (sent_by u.outs.items) (taken_by u.ins.items) u.hand u.seat.token.me.0
+  pub works : (s : ScenarioLists) (turns : ℕ) → IsInterfaceOf s w.interface → InterfaceWorks s ids w.interface.settings.node turns w.interface.log (sent_by w.outs.items) (taken_by w.ins.items) w.hand (pass_of w.seat)
+      → InterfaceWorks s ids w.interface.settings.node (turns + 1) u.interface.log (sent_by u.outs.items) (taken_by u.ins.items) u.hand (pass_of u.seat)

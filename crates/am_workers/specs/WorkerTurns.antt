@@ -1,5 +1,6 @@
 -- What a turn of each worker does that has not stopped.
 use Rattle.std.specs.Prelude.{◌≡◌, ◌⊎◌, ℕ, ◌+◌, ◌-◌, ◌<◌, nat_lt, if◌then◌else◌, Option, Some, None, List, [], length, slice_get}
+use Rattle.am_places.specs.Seats.{pass_of}
 use Rattle.am_model.specs.Layout.{node_at}
 use Rattle.am_model_parts.specs.declared.work.Work.{Work}
 use Rattle.am_swap_device.specs.Memory.{device_of}
@@ -38,7 +39,7 @@ clock_by clock (Some turn) = clock_after clock turn
 -- stops it, and want of memory
 pub record TurnsThread (ids : Ids) (v w : ThreadWorker) : Type 0 where
   pub made : Option ThreadTurn
-  pub turn : CallTurns ids v.script.items v.thread v.next v.clock v.seat.token.me.0 w.seat.token.me.0 made
+  pub turn : CallTurns ids v.script.items v.thread v.next v.clock (pass_of v.seat) (pass_of w.seat) made
   pub next : w.next ≡ next_by v.next made
   pub clock : w.clock ≡ clock_by v.clock made
   pub stop : w.stop ≡ stop_after_call made
@@ -49,7 +50,7 @@ pub record TurnsThread (ids : Ids) (v w : ThreadWorker) : Type 0 where
 -- it looked at the endpoints of its node and made the move that its rules gave, if they gave it still. A full log stops it, and want of memory
 pub record TurnsDriver (v w : DriverWorker) : Type 0 where
   pub moved : Answer
-  pub turn : DriverTurns (length v.view.ends) v.node v.clock w.clock v.view w.view (device_of v.swap) (device_of w.swap) v.seat.token.me.0 w.seat.token.me.0 moved
+  pub turn : DriverTurns (length v.view.ends) v.node v.clock w.clock v.view w.view (device_of v.swap) (device_of w.swap) (pass_of v.seat) (pass_of w.seat) moved
   pub stop : w.stop ≡ stop_after_move moved
 
 -- ---- an interface
@@ -66,8 +67,8 @@ AreWholeTo count outs = (k : ℕ) (o : LinkOut) → k < count → slice_get outs
 -- to the next endpoint, and a full log stops it, and want of memory
 pub record DoesWork (ids : Ids) (work : Work) (w u : InterfaceWorker) : Type 0 where
   pub made : InterfaceTurn
-  pub turn : WorkTurns work w.interface u.interface w.seat.token.me.0 u.seat.token.me.0 made
-  pub why : WhyTurned ids work w.interface w.seat.token.me.0 u.seat.token.me.0 made
+  pub turn : WorkTurns work w.interface u.interface (pass_of w.seat) (pass_of u.seat) made
+  pub why : WhyTurned ids work w.interface (pass_of w.seat) (pass_of u.seat) made
   pub hand : u.hand ≡ hand_after w.hand work made
   pub begun : turn_of u.waits ≡ turn_of w.waits
   pub since : since_of u.waits ≡ since_after (turn_of w.waits) (out_of made) (since_of w.waits)

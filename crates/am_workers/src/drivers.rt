@@ -9,6 +9,7 @@ ghost use Rattle.am_workers.specs.WorkerTurns.{TurnsDriver};
 ghost use Rattle.am_workers.specs.declared.workers.Stop.{Stop};
 ghost use Rattle.am_workers_laws.specs.Invariants.Seats.{SameSeat};
 ghost use Rattle.std.specs.Prelude.{None, Some, ◌≡◌, ◌+◌, ◌<◌};
+ghost use Rattle.am_places.specs.Seats.{pass_of, table_in};
 
 use crate::gate::Gate;
 use crate::workers::{DriverWorker, Stop};
@@ -43,10 +44,10 @@ pub fn turn_as_driver(
     requires ends { places.now.ids.items ≡ ends_of (layout_of scenario.now) worker.old.node }
     requires declared { worker.old.node.0 < scenario.now.nodes }
     requires frames { places.now.frames ≡ scenario.now.frames }
-    requires at_work { IsDriverAtWork scenario.now places.now.board.shared.table_id places.now.ids.items worker.old.node turn worker.old }
+    requires at_work { IsDriverAtWork scenario.now (table_in places.now) places.now.ids.items worker.old.node turn worker.old }
     ensures turn { worker.old.stop ≡ None → TurnsDriver worker.old worker.new }
-    ensures at_work { IsDriverAtWork scenario.now places.now.board.shared.table_id places.now.ids.items worker.old.node (turn + 1) worker.new }
-    ensures seat { SameSeat worker.old.seat.token.me.0 worker.new.seat.token.me.0 }
+    ensures at_work { IsDriverAtWork scenario.now (table_in places.now) places.now.ids.items worker.old.node (turn + 1) worker.new }
+    ensures seat { SameSeat (pass_of worker.old.seat) (pass_of worker.new.seat) }
     ensures node { worker.new.node ≡ worker.old.node }
     ensures stopped { (why : Stop) → worker.old.stop ≡ Some why → worker.new ≡ worker.old }
 {
@@ -81,9 +82,9 @@ pub fn work_as_driver<G: Gate>(
     requires ends { places.now.ids.items ≡ ends_of (layout_of scenario.now) worker.old.node }
     requires declared { worker.old.node.0 < scenario.now.nodes }
     requires frames { places.now.frames ≡ scenario.now.frames }
-    requires at_work { IsDriverAtWork scenario.now places.now.board.shared.table_id places.now.ids.items worker.old.node 0 worker.old }
-    ensures at_work { IsDriverAtWork scenario.now places.now.board.shared.table_id places.now.ids.items worker.old.node scenario.now.turns worker.new }
-    ensures seat { SameSeat worker.old.seat.token.me.0 worker.new.seat.token.me.0 }
+    requires at_work { IsDriverAtWork scenario.now (table_in places.now) places.now.ids.items worker.old.node 0 worker.old }
+    ensures at_work { IsDriverAtWork scenario.now (table_in places.now) places.now.ids.items worker.old.node scenario.now.turns worker.new }
+    ensures seat { SameSeat (pass_of worker.old.seat) (pass_of worker.new.seat) }
     ensures node { worker.new.node ≡ worker.old.node }
     ensures stopped { (why : Stop) → worker.old.stop ≡ Some why → worker.new ≡ worker.old }
 {

@@ -10,6 +10,7 @@ ghost use Rattle.am_workers.specs.Stops.{stop_after_work};
 ghost use Rattle.am_workers.specs.declared.workers.Stop.{Stop};
 ghost use Rattle.am_workers_laws.specs.Invariants.Seats.{SameSeat};
 ghost use Rattle.std.specs.Prelude.{◌≡◌, ◌+◌, ◌<◌, ◌≤◌, None, OnErr, OnOk, Some, length};
+ghost use Rattle.am_places.specs.Seats.{pass_of, table_in};
 
 use crate::gate::Gate;
 use crate::turns::{InterfaceTurn, next_work, serve};
@@ -78,9 +79,9 @@ fn next_place(at: usize, work: &Work, count: usize) -> usize
 
 /// Does this work, and emits what its entry emits on the link to its receiver.
 fn do_work(worker: &mut InterfaceWorker, places: &Places<EndBook>, ids: &[EndpointId], work: &Work)
-    requires can { CanServe places.now.board.shared.table_id places.now.count ids.now worker.old }
+    requires can { CanServe (table_in places.now) places.now.count ids.now worker.old }
     requires hand { HandHolds worker.old.hand work.now }
-    ensures serves { Serves places.now.board.shared.table_id ids.now worker.old worker.new }
+    ensures serves { Serves (table_in places.now) ids.now worker.old worker.new }
     ensures does { DoesWork ids.now work.now worker.old worker.new }
 {
     let turn = serve(
@@ -101,8 +102,8 @@ fn do_work(worker: &mut InterfaceWorker, places: &Places<EndBook>, ids: &[Endpoi
 
 /// Chooses a work and does it, if there is one to do.
 fn find_work(worker: &mut InterfaceWorker, places: &Places<EndBook>, ids: &[EndpointId])
-    requires can { CanServe places.now.board.shared.table_id places.now.count ids.now worker.old }
-    ensures serves { Serves places.now.board.shared.table_id ids.now worker.old worker.new }
+    requires can { CanServe (table_in places.now) places.now.count ids.now worker.old }
+    ensures serves { Serves (table_in places.now) ids.now worker.old worker.new }
     ensures finds { FindsWork ids.now worker.old worker.new }
 {
     worker.waits.begin_turn();
@@ -130,10 +131,10 @@ pub fn turn_as_interface(
     turn: u32,
 )
     requires lawful { IsLawful scenario.now }
-    requires at_work { IsInterfaceAtWork scenario.now places.now.board.shared.table_id places.now.ids.items node turn worker.old }
+    requires at_work { IsInterfaceAtWork scenario.now (table_in places.now) places.now.ids.items node turn worker.old }
     ensures turn { worker.old.stop ≡ None → TurnsInterface places.now.ids.items worker.old worker.new }
-    ensures at_work { IsInterfaceAtWork scenario.now places.now.board.shared.table_id places.now.ids.items node (turn + 1) worker.new }
-    ensures seat { SameSeat worker.old.seat.token.me.0 worker.new.seat.token.me.0 }
+    ensures at_work { IsInterfaceAtWork scenario.now (table_in places.now) places.now.ids.items node (turn + 1) worker.new }
+    ensures seat { SameSeat (pass_of worker.old.seat) (pass_of worker.new.seat) }
     ensures outs { SameOuts worker.old.outs.items worker.new.outs.items }
     ensures ins { SameIns worker.old.ins.items worker.new.ins.items }
     ensures stopped { (why : Stop) → worker.old.stop ≡ Some why → worker.new ≡ worker.old }
@@ -160,9 +161,9 @@ pub fn work_as_interface<G: Gate>(
     requires lawful { IsLawful scenario.now }
     requires packet { scenario.now.network ≡ IsPacket }
     requires declared { node.0 < scenario.now.nodes }
-    requires at_work { IsInterfaceAtWork scenario.now places.now.board.shared.table_id places.now.ids.items node 0 worker.old }
-    ensures at_work { IsInterfaceAtWork scenario.now places.now.board.shared.table_id places.now.ids.items node scenario.now.turns worker.new }
-    ensures seat { SameSeat worker.old.seat.token.me.0 worker.new.seat.token.me.0 }
+    requires at_work { IsInterfaceAtWork scenario.now (table_in places.now) places.now.ids.items node 0 worker.old }
+    ensures at_work { IsInterfaceAtWork scenario.now (table_in places.now) places.now.ids.items node scenario.now.turns worker.new }
+    ensures seat { SameSeat (pass_of worker.old.seat) (pass_of worker.new.seat) }
     ensures outs { SameOuts worker.old.outs.items worker.new.outs.items }
     ensures ins { SameIns worker.old.ins.items worker.new.ins.items }
     ensures stopped { (why : Stop) → worker.old.stop ≡ Some why → worker.new ≡ worker.old }

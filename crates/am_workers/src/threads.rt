@@ -6,6 +6,7 @@ ghost use Rattle.am_workers.specs.WorkerTurns.{TurnsThread};
 ghost use Rattle.am_workers.specs.declared.workers.Stop.{Stop};
 ghost use Rattle.am_workers_laws.specs.Invariants.Seats.{SameSeat};
 ghost use Rattle.std.specs.Prelude.{None, Some, ◌≡◌, ◌+◌};
+ghost use Rattle.am_places.specs.Seats.{pass_of, table_in};
 
 use crate::gate::Gate;
 use crate::turns::{ThreadTurn, call_turn};
@@ -34,10 +35,10 @@ pub fn turn_as_thread(
     scenario: &Scenario,
     turn: u32,
 )
-    requires at_work { IsThreadAtWork scenario.now places.now.board.shared.table_id places.now.ids.items turn worker.old }
+    requires at_work { IsThreadAtWork scenario.now (table_in places.now) places.now.ids.items turn worker.old }
     ensures turn { worker.old.stop ≡ None → TurnsThread places.now.ids.items worker.old worker.new }
-    ensures at_work { IsThreadAtWork scenario.now places.now.board.shared.table_id places.now.ids.items (turn + 1) worker.new }
-    ensures seat { SameSeat worker.old.seat.token.me.0 worker.new.seat.token.me.0 }
+    ensures at_work { IsThreadAtWork scenario.now (table_in places.now) places.now.ids.items (turn + 1) worker.new }
+    ensures seat { SameSeat (pass_of worker.old.seat) (pass_of worker.new.seat) }
     ensures thread { worker.new.thread ≡ worker.old.thread }
     ensures stopped { (why : Stop) → worker.old.stop ≡ Some why → worker.new ≡ worker.old }
 {
@@ -66,9 +67,9 @@ pub fn work_as_thread<G: Gate>(
     gate: &G,
 )
     requires lawful { IsLawful scenario.now }
-    requires at_work { IsThreadAtWork scenario.now places.now.board.shared.table_id places.now.ids.items 0 worker.old }
-    ensures at_work { IsThreadAtWork scenario.now places.now.board.shared.table_id places.now.ids.items scenario.now.turns worker.new }
-    ensures seat { SameSeat worker.old.seat.token.me.0 worker.new.seat.token.me.0 }
+    requires at_work { IsThreadAtWork scenario.now (table_in places.now) places.now.ids.items 0 worker.old }
+    ensures at_work { IsThreadAtWork scenario.now (table_in places.now) places.now.ids.items scenario.now.turns worker.new }
+    ensures seat { SameSeat (pass_of worker.old.seat) (pass_of worker.new.seat) }
     ensures thread { worker.new.thread ≡ worker.old.thread }
     ensures stopped { (why : Stop) → worker.old.stop ≡ Some why → worker.new ≡ worker.old }
 {

@@ -14,6 +14,7 @@ use Rattle.am_scenario_types.specs.declared.parts.Network.TheVariants as Network
 use Rattle.am_model_scripts.specs.Scripts.{calls_of}
 use Rattle.am_workers_laws.specs.declared.books.EndBook.{EndBook}
 use Rattle.am_places.specs.Rule.{Begins, HasGathered, gathered}
+use Rattle.am_places.specs.Seats.{pass_of}
 use Rattle.am_wire.specs.Links.{emitted, received, released}
 use Rattle.am_wire.specs.declared.receiving.LinkIn.{LinkIn}
 use Rattle.am_wire.specs.declared.sending.LinkOut.{LinkOut}
@@ -27,12 +28,12 @@ use Rattle.am_workers_laws.specs.Books.Ends.{end_in}
 
 -- ---- the seats
 
-abbrev pub pass_of : ThreadWorker → EndPass
-pass_of w = w.seat.token.me.0
+abbrev pub thread_pass : ThreadWorker → EndPass
+thread_pass w = pass_of w.seat
 
 -- what the seats know that the driver gathers, in this order: the threads', and the interface's
 abbrev pub passes_of : NodeCrew → List EndPass
-passes_of c = map pass_of c.threads.items ++ c.interface.seat.token.me.0 ∷ []
+passes_of c = map thread_pass c.threads.items ++ pass_of c.interface.seat ∷ []
 
 -- what a seat knows that has gathered these, one after the other
 abbrev pub gathered_all : EndPass → List EndPass → EndPass
@@ -41,7 +42,7 @@ gathered_all v (w ∷ ws) = gathered_all (gathered v w) ws
 
 -- what the driver's seat knows when it has gathered all
 abbrev pub whole_of : NodeCrew → EndPass
-whole_of c = gathered_all c.driver.seat.token.me.0 (passes_of c)
+whole_of c = gathered_all (pass_of c.driver.seat) (passes_of c)
 
 -- the driver then took out these books, those of all endpoints of its node, in order
 pub record AreBooksOf (c : NodeCrew) (books : List EndBook) : Type 0 where

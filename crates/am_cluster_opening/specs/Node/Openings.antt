@@ -18,6 +18,7 @@ use Rattle.am_model_parts.specs.Together.{ends_of, faults_of}
 use Rattle.am_machine.specs.declared.node.NodePart.{NodePart}
 use Rattle.am_places.specs.declared.places.Places.{Places}
 use Rattle.am_places.specs.declared.places.Seat.{Seat}
+use Rattle.am_places.specs.Seats.{me_of, table_in}
 use Rattle.am_scenario_types.specs.declared.parts.ThreadLine.{ThreadLine}
 use Rattle.am_scenario_types.specs.Lists.{ScenarioLists}
 use Rattle.am_model_scripts.specs.Layout.{layout_of}
@@ -61,15 +62,11 @@ EndSeat = Seat EndBook Entry EndSettings ghosts
 -- the seat with this number, from 0, of so many of the places for these books, which were just made
 pub record IsFreshSeat (table : TableId) (books : List EndBook) (named : List EndpointId) (k seats frames : ℕ) (seat : EndSeat) : Type 0 where
   pub table_is : seat.token.table_id ≡ table
-  pub pass : seat.token.me ≡ (fresh_pass books named k seats frames, [])
+  pub pass : me_of seat ≡ (fresh_pass books named k seats frames, [])
 
 -- the places for the books of these endpoints
 abbrev pub EndPlaces : Type 0
 EndPlaces = Places EndBook Entry EndSettings
-
--- the table in which the seats of these places stand
-abbrev pub table_in : EndPlaces → TableId
-table_in places = places.board.shared.table_id
 
 -- these are places for the books of these endpoints, and so many seats that were just made
 pub record ArePlacesOf (ends : List EndpointView) (frames count : ℕ) (places : EndPlaces) (seats : List EndSeat) : Type 0 where

@@ -8,7 +8,7 @@ use Rattle.am_office_entries.specs.declared.Entry.{Entry}
 use Rattle.am_scenario_types.specs.Lists.{ScenarioLists}
 use Rattle.am_job.specs.declared.words.codes.CodedWord.{CodedWord}
 use Rattle.am_job.specs.Words.Codes.{sent_words}
-use Rattle.am_job.specs.Words.Counts.{Counted, Tells, see_journal, times}
+use Rattle.am_job.specs.Words.Counts.{Counted, IsTallyOf, see_journal, times}
 use Rattle.am_job.specs.Words.Lists.{WordCountLists}
 use Rattle.am_job.specs.Words.Texts.{is_short, long_count, words_of}
 use Rattle.am_job.specs.Asked.{ask_script, asked_in_all, run_in_all}
@@ -55,7 +55,7 @@ EndIn asked journals =
 pub record CountsAll (is_run : ScenarioLists → List Entry → Type 0) (w turns : ℕ) (sent : List CodedWord) (number : ℕ) (counted : Counted) : Type 0 where
   pub journals : List (List Entry)
   pub rounds : AllZip (IsRound is_run) (map (round_at w turns sent) (range_with_len 0 number)) journals
-  pub tells : Tells counted (asked_in_all (map (round_at w turns sent) (range_with_len 0 number))) (run_in_all journals)
+  pub tells : IsTallyOf counted (asked_in_all (map (round_at w turns sent) (range_with_len 0 number))) (run_in_all journals)
   pub ends : EndIn (asked_in_all (map (round_at w turns sent) (range_with_len 0 number))) journals
 
 -- what is left of a word is how often its request was refused, and how often its message was returned

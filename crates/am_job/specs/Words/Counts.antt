@@ -89,5 +89,5 @@ abbrev pub rows_of : Counted → List WordCountLists
 rows_of counted = filter_map row_of counted
 
 -- THE COUNTS SO FAR: of each word how often it was sent, and how often it ran
-pub record Tells (counted : Counted) (asked ran : List (List ℕ)) : Type 0 where
+pub record IsTallyOf (counted : Counted) (asked ran : List (List ℕ)) : Type 0 where
   pub each : (word : List ℕ) → count_at counted word ≡ record { asked = capped (times asked word); ran = capped (times ran word) }

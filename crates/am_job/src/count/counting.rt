@@ -18,18 +18,21 @@ use am_office_entries::{Journal, Part};
 use am_scenario_types::Scenario;
 use std::alloc::{AllocError, Global};
 use std::thread::Threads;
+use thiserror::Error;
 
 /// Why words were not counted.
-#[derive(Debug, Drop)]
+#[derive(Debug, Drop, Error)]
 pub enum CountStop {
     /// In the run of this scenario, which is that of a round, the log of this part is full, and the next entry would have to go into
     /// it. The journal has the entries of the run before it.
+    #[error("a log is full")]
     LogFull {
         scenario: Scenario,
         part: Part,
         journal: Journal,
     },
     /// There is no memory.
+    #[error("there is no memory")]
     NoMemory,
 }
 

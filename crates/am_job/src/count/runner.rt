@@ -18,13 +18,16 @@ use am_office_entries::{Journal, Part};
 use am_scenario_types::Scenario;
 use std::alloc::Global;
 use std::thread::Threads;
+use thiserror::Error;
 
 /// Why a run did not come to its end.
-#[derive(Debug, Drop)]
+#[derive(Debug, Drop, Error)]
 pub enum RunStop {
     /// The log of this part is full, and the next entry would have to go into it. The journal has the entries before it.
+    #[error("a log is full")]
     LogFull { part: Part, journal: Journal },
     /// There is no memory for the run.
+    #[error("there is no memory for the run")]
     NoMemory,
 }
 

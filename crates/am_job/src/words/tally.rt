@@ -9,7 +9,7 @@ use crate::words::rows::WordCount;
 use crate::words::spelled::{Spelled, word_in};
 use am_names::NoMemory;
 use am_office_entries::logged::LoggedJournal;
-use am_office_entries::{Call, Entry, Journal, run_of};
+use am_office_entries::{Call, Entry, run_of};
 use std::alloc::Global;
 use std::collections::BTreeMap;
 use std::marker::Model;
@@ -123,23 +123,6 @@ impl Tally {
         Ok(())
     }
 
-    // The words of entries ran.
-    fn see_all(&mut self, alloc: Global, entries: &[Entry]) -> Result<(), NoMemory>
-        ensures { OnOk result (self.new ≡ see_journal self.old entries.now) }
-    {
-        for entry in entries {
-            self.see(alloc, entry)?;
-        }
-        Ok(())
-    }
-
-    /// Counts each word that a journal runs. After `NoMemory` the counts are of no more use.
-    pub fn see_journal(&mut self, alloc: Global, journal: &Journal) -> Result<(), NoMemory>
-        ensures { OnOk result (self.new ≡ see_journal self.old journal.now) }
-    {
-        self.see_all(alloc, &journal.entries)
-    }
-
     // The words of entries behind references ran.
     fn see_behind(&mut self, alloc: Global, entries: &[&Entry]) -> Result<(), NoMemory>
         ensures { OnOk result (self.new ≡ see_journal self.old (entries_behind entries.now)) }
@@ -150,8 +133,8 @@ impl Tally {
         Ok(())
     }
 
-    /// The same of a journal whose entries stay where they were logged.
-    pub fn see_logged(&mut self, alloc: Global, journal: &LoggedJournal) -> Result<(), NoMemory>
+    /// Counts each word that a journal runs. After `NoMemory` the counts are of no more use.
+    pub fn see_journal(&mut self, alloc: Global, journal: &LoggedJournal) -> Result<(), NoMemory>
         ensures { OnOk result (self.new ≡ see_journal self.old journal.now) }
     {
         self.see_behind(alloc, journal.entries())

@@ -28,7 +28,7 @@ pub record StandsAt (form : Form) (s : ScenarioLists) (bytes : List ℕ) (number
   pub number' : number ≡ length journal + 3
 
 -- a line stands behind some journal
-pub record HasPlace (form : Form) (s : ScenarioLists) (bytes : List ℕ) (number : ℕ) : Type 0 where
+pub record IsBehindJournal (form : Form) (s : ScenarioLists) (bytes : List ℕ) (number : ℕ) : Type 0 where
   pub journal : List Entry
   pub left : List (List ℕ)
   pub at : StandsAt form s bytes number journal left
@@ -76,22 +76,22 @@ pub record DueLine (form : Form) (s : ScenarioLists) (bytes : List ℕ) (number 
 
 -- What was due at a line of the report of a scenario, by what is wrong there. Of a line that may not stand there at all no more is
 -- told.
-abbrev pub IsDueOf : Form → ScenarioLists → List ℕ → ℕ → CheckWhat → List ℕ → Type 0
-IsDueOf form s bytes number Whats.Form out = out ≡ []
-IsDueOf form s bytes number (Whats.NotEnabled condition) out = FoundState form s bytes number condition out
-IsDueOf form s bytes number Whats.Outcome out = DueEntry form s bytes number out
-IsDueOf form s bytes number Whats.Follows out = MightCome form s bytes number out
-IsDueOf form s bytes number Whats.Tail out = DueLine form s bytes number out
+abbrev pub WasDueOf : Form → ScenarioLists → List ℕ → ℕ → CheckWhat → List ℕ → Type 0
+WasDueOf form s bytes number Whats.Form out = out ≡ []
+WasDueOf form s bytes number (Whats.NotEnabled condition) out = FoundState form s bytes number condition out
+WasDueOf form s bytes number Whats.Outcome out = DueEntry form s bytes number out
+WasDueOf form s bytes number Whats.Follows out = MightCome form s bytes number out
+WasDueOf form s bytes number Whats.Tail out = DueLine form s bytes number out
 
 -- what was due at a line of a report that stands behind its scenario
-pub record IsDueBehind (form : Form) (text : List ℕ) (number : ℕ) (what : CheckWhat) (out : List ℕ) : Type 0 where
+pub record WasDueBehind (form : Form) (text : List ℕ) (number : ℕ) (what : CheckWhat) (out : List ℕ) : Type 0 where
   pub place : ℕ
   pub place' : place_of text ≡ Some place
   pub scenario : ScenarioLists
   pub spelled : Spells form (take place text) scenario
-  pub due : IsDueOf form scenario (drop place text) number what out
+  pub due : WasDueOf form scenario (drop place text) number what out
 
 -- what was due at a line of the report in a text
-abbrev pub IsDue : Form → List ℕ → ℕ → CheckWhat → List ℕ → Type 0
-IsDue form text number Whats.Form out = out ≡ []
-IsDue form text number what out = IsDueBehind form text number what out
+abbrev pub WasDue : Form → List ℕ → ℕ → CheckWhat → List ℕ → Type 0
+WasDue form text number Whats.Form out = out ≡ []
+WasDue form text number what out = WasDueBehind form text number what out

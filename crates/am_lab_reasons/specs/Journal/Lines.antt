@@ -30,7 +30,7 @@ pub record HasLines (layout : Layout) (lines : List (List ℕ)) (count : ℕ) : 
   pub count' : length journal ≡ count
 
 -- The line with this number, counted from 1, stands behind the lines of some journal.
-pub record HasPlace (layout : Layout) (bytes : List ℕ) (number : ℕ) : Type 0 where
+pub record IsBehindLines (layout : Layout) (bytes : List ℕ) (number : ℕ) : Type 0 where
   pub journal : List Entry
   pub left : List (List ℕ)
   pub are : AreLines layout (drop 2 (lines_of bytes)) journal left

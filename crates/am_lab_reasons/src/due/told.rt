@@ -3,7 +3,7 @@
 ghost use Rattle.am_check.specs.Follows.{ids_of};
 ghost use Rattle.am_check.specs.Verdict.{HasJournal};
 ghost use Rattle.am_lab_reasons.specs.Due.Choices.{step_line};
-ghost use Rattle.am_lab_reasons.specs.Due.Due.{DueEntry, DueLine, FoundState, HasEvent, HasPlace, MightCome, StandsAt};
+ghost use Rattle.am_lab_reasons.specs.Due.Due.{DueEntry, DueLine, FoundState, HasEvent, IsBehindJournal, MightCome, StandsAt};
 ghost use Rattle.am_lab_reasons.specs.Due.Found.{found};
 ghost use Rattle.am_lab_reasons.specs.Due.Texts.{due_entry, due_line};
 ghost use Rattle.am_lab_reasons.specs.Journal.Lines.{IsMadeAgain};
@@ -206,7 +206,7 @@ fn follow_line<'a>(
 ) -> Result<ScriptedCluster<'a>, NoMemory>
     requires lawful { IsLawful scenario.now }
     requires packet { scenario.now.network ≡ Packet }
-    requires place { HasPlace Forms.Run scenario.now bytes.now line }
+    requires place { IsBehindJournal Forms.Run scenario.now bytes.now line }
     ensures scenario { IfOk result (λ run. run.scenario ≡ scenario.now) }
     ensures at { IfOk result (λ run. (left : List (List ℕ)) × StandsAt Forms.Run scenario.now bytes.now line run.journal left) }
 {
@@ -228,7 +228,7 @@ pub(crate) fn next_events(
 ) -> Result<Vec<u8>, NoMemory>
     requires lawful { IsLawful scenario.now }
     requires packet { scenario.now.network ≡ Packet }
-    requires place { HasPlace Forms.Run scenario.now bytes.now line }
+    requires place { IsBehindJournal Forms.Run scenario.now bytes.now line }
     ensures { IfOk result (λ out. MightCome Forms.Run scenario.now bytes.now line out.items) }
 {
     let run = follow_line(alloc, scenario, bytes, line)?;

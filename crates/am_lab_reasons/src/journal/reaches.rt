@@ -1,7 +1,7 @@
 //! A cluster as it stands in front of a line of a report, and behind its journal.
 
 ghost use Rattle.am_check.specs.Verdict.{IsReportOf, count_of};
-ghost use Rattle.am_lab_reasons.specs.Journal.Lines.{AreLines, HasEnd, HasPlace};
+ghost use Rattle.am_lab_reasons.specs.Journal.Lines.{AreLines, HasEnd, IsBehindLines};
 ghost use Rattle.am_lexer.specs.Text.{lines_of};
 ghost use Rattle.am_office_entries.specs.declared.Entry.{Entry};
 ghost use Rattle.am_scenario_types.specs.Lawful.{IsLawful};
@@ -20,7 +20,7 @@ use std::alloc::Global;
 /// from that one on.
 pub fn reach<'a>(cluster: &mut Cluster, bytes: &'a [u8], line: u32) -> Result<&'a [u8], NoMemory>
     requires fresh { cluster.old.journal ≡ [] }
-    requires place { HasPlace cluster.old.layout bytes.now line }
+    requires place { IsBehindLines cluster.old.layout bytes.now line }
     ensures layout { cluster.new.layout ≡ cluster.old.layout }
     ensures reached { (journal : List Entry) (left : List (List ℕ)) → AreLines cluster.old.layout (drop 2 (lines_of bytes.now)) journal left → line ≡ length journal + 3 → IfOk result (λ rest. (cluster.new.journal ≡ journal) × (lines_of rest.now ≡ left)) }
 {

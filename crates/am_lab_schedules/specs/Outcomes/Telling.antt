@@ -8,7 +8,7 @@ use Rattle.am_lab_schedules.specs.declared.outcomes.telling.Telling.{Telling}
 use Rattle.am_office_report.specs.declared.messages.MessageFate.{MessageFate}
 
 -- these runs are told beside these messages of a first one
-pub record Tells (telling : Telling) (first : List MessageFate) (runs : List SeedRun) : Type 0 where
+pub record HasToldRuns (telling : Telling) (first : List MessageFate) (runs : List SeedRun) : Type 0 where
   pub first' : telling.first.messages.items ≡ first
   pub lines : telling.text.items ≡ flat_map (run_line first) runs
   pub seen : Keeps telling.seen (map journal_text runs)

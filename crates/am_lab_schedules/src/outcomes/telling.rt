@@ -38,7 +38,7 @@ pub struct Telling {
 impl Telling {
     ghost use Rattle.std.specs.Prelude.{◌≡◌, ◌∷◌, ◌++◌, [], IfOk, List};
     ghost use Rattle.am_lab_schedules.specs.Outcomes.Outcomes.{first_fates, outcomes};
-    ghost use Rattle.am_lab_schedules.specs.Outcomes.Telling.{Tells};
+    ghost use Rattle.am_lab_schedules.specs.Outcomes.Telling.{HasToldRuns};
     ghost use Rattle.am_lab_schedules.specs.declared.outcomes.runs.SeedRun.{SeedRun};
     ghost use Rattle.am_main_lines.specs.Lines.{answer_in};
     ghost use Rattle.am_office_report.specs.Report.{told};
@@ -46,7 +46,7 @@ impl Telling {
 
     /// No run is told yet; each will be compared with this one.
     pub fn new(alloc: Global, first: &SeedRun) -> Result<Telling, NoMemory>
-        ensures { IfOk result (λ telling. Tells telling (told first.now.journal) []) }
+        ensures { IfOk result (λ telling. HasToldRuns telling (told first.now.journal) []) }
     {
         let logged = first.logged(alloc)?;
         Ok(Telling {
@@ -59,7 +59,7 @@ impl Telling {
 
     /// Tells one run more.
     pub fn tell(self, alloc: Global, run: &SeedRun) -> Result<Telling, NoMemory>
-        ensures { (first : List MessageFate) (runs : List SeedRun) → Tells self first runs → IfOk result (λ telling. Tells telling first (runs ++ run.now ∷ [])) }
+        ensures { (first : List MessageFate) (runs : List SeedRun) → HasToldRuns self first runs → IfOk result (λ telling. HasToldRuns telling first (runs ++ run.now ∷ [])) }
     {
         let mut telling = self;
         put_run_line(alloc, &mut telling.text, &telling.first, run)?;
@@ -71,7 +71,7 @@ impl Telling {
 
     /// What is answered, when all runs are told: status 6 where one met a full log, else 0, and the text.
     pub fn output(self) -> Result<Output, NoMemory>
-        ensures { (runs : List SeedRun) → Tells self (first_fates runs) runs → IfOk result (λ output. answer_in output ≡ outcomes runs) }
+        ensures { (runs : List SeedRun) → HasToldRuns self (first_fates runs) runs → IfOk result (λ output. answer_in output ≡ outcomes runs) }
     {
         let status = status_of(self.full);
         let count = self.seen.count();

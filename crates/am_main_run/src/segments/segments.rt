@@ -29,8 +29,8 @@ fn segments_lines(
     requires { length read.now.expanded.transfers ≤ 16384 }
     ensures { IfOk result (λ lines. lines.items ≡ segments_text read.now.expanded journal.now) }
 {
-    let copied = journal.copied(alloc)?;
-    segments_text(alloc, &read.expanded, &copied)
+    let logged = journal.logged(alloc)?;
+    segments_text(alloc, &read.expanded, &logged)
 }
 
 // The report of a run, and behind it the segments and the transfers.

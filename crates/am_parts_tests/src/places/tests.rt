@@ -4,6 +4,7 @@ ghost use Rattle.std.specs.Prelude.{◌≡◌, ℕ, ◌+◌, ◌-◌, ◌<◌, �
 ghost use mathlib.Core.Option.{some};
 ghost use lib.ListN.{get_elem?};
 ghost use Rattle.am_places.specs.Rule.{HasGathered};
+ghost use Rattle.am_places.specs.Seats.{SitsAt, pass_of, table_in};
 ghost use Rattle.am_parts_tests.specs.Places.Ids.{nine};
 ghost use Rattle.am_places_stays.specs.Stays.{IsInside, IsWaiting};
 
@@ -26,7 +27,7 @@ fn four_books(
     ensures places { IfOk result (λ r. (r.0.count ≡ 4) × (r.0.frames ≡ frames)) }
     ensures nine { IfOk result (λ r. Contains r.0.ids.items nine) }
     ensures many { IfOk result (λ r. length r.1.items ≡ seats) }
-    ensures seats { IfOk result (λ r. (k : ℕ) (s : _) → get_elem? r.1.items k ≡ some s → IsWaiting r.0.board.shared.table_id s.token × (s.token.me.0.mark ≡ k + 1) × (s.token.me.0.seats ≡ seats) × (length s.token.me.0.frames ≡ r.0.frames)) }
+    ensures seats { IfOk result (λ r. (k : ℕ) (s : _) → get_elem? r.1.items k ≡ some s → IsWaiting (table_in r.0) s.token × ((pass_of s).mark ≡ k + 1) × ((pass_of s).seats ≡ seats) × (length (pass_of s).frames ≡ r.0.frames)) }
 {
     let books = vec![in alloc;
         Notes::new(alloc),
@@ -46,10 +47,10 @@ fn four_books(
 
 /// The last seat of the list.
 fn last_seat(places: &Places<Notes>, seats: u8, list: &mut Vec<Seat<Notes>>) -> Option<Seat<Notes>>
-    requires { (k : ℕ) (s : _) → get_elem? list.old.items k ≡ some s → IsWaiting places.now.board.shared.table_id s.token × (s.token.me.0.mark ≡ k + 1) × (s.token.me.0.seats ≡ seats) × (length s.token.me.0.frames ≡ places.now.frames) }
-    ensures list { (k : ℕ) (s : _) → get_elem? list.new.items k ≡ some s → IsWaiting places.now.board.shared.table_id s.token × (s.token.me.0.mark ≡ k + 1) × (s.token.me.0.seats ≡ seats) × (length s.token.me.0.frames ≡ places.now.frames) }
+    requires { (k : ℕ) (s : _) → get_elem? list.old.items k ≡ some s → IsWaiting (table_in places.now) s.token × ((pass_of s).mark ≡ k + 1) × ((pass_of s).seats ≡ seats) × (length (pass_of s).frames ≡ places.now.frames) }
+    ensures list { (k : ℕ) (s : _) → get_elem? list.new.items k ≡ some s → IsWaiting (table_in places.now) s.token × ((pass_of s).mark ≡ k + 1) × ((pass_of s).seats ≡ seats) × (length (pass_of s).frames ≡ places.now.frames) }
     ensures length { length list.new.items ≡ length list.old.items - 1 }
-    ensures seat { IfSome result (λ s. IsWaiting places.now.board.shared.table_id s.token × (s.token.me.0.mark ≡ length list.old.items) × (s.token.me.0.seats ≡ seats) × (length s.token.me.0.frames ≡ places.now.frames)) }
+    ensures seat { IfSome result (λ s. IsWaiting (table_in places.now) s.token × ((pass_of s).mark ≡ length list.old.items) × ((pass_of s).seats ≡ seats) × (length (pass_of s).frames ≡ places.now.frames)) }
 {
     let seat = list.pop()?;
     Some(seat)
@@ -62,11 +63,11 @@ fn work(
     mut seat: Seat<Notes>,
     first: u32,
 ) -> (Seat<Notes>, Result<Vec<u32>, AllocError>)
-    requires waiting { IsWaiting places.now.board.shared.table_id seat.token }
+    requires waiting { IsWaiting (table_in places.now) seat.token }
     requires four { places.now.count ≡ 4 }
     requires few { first < 10000 }
-    ensures seat { (result.0.token.me.0.mark ≡ seat.token.me.0.mark) × (result.0.token.me.0.seats ≡ seat.token.me.0.seats) }
-    ensures waiting { IsWaiting places.now.board.shared.table_id result.0.token }
+    ensures seat { ((pass_of result.0).mark ≡ (pass_of seat).mark) × ((pass_of result.0).seats ≡ (pass_of seat).seats) }
+    ensures waiting { IsWaiting (table_in places.now) result.0.token }
 {
     let mut written = Ok(Vec::new(alloc));
     for turn in 0..1000_u32 {
@@ -129,10 +130,10 @@ fn each_seat_finds_its_lines(rt: HostRuntime) -> Result<(), Fail> {
 
 /// Who was met at this position, if anyone was: else the seat leaves again.
 fn holder_met(places: &Places<Notes>, seat: &mut Seat<Notes>, at: usize) -> Option<u8>
-    requires waiting { IsWaiting places.now.board.shared.table_id seat.old.token }
+    requires waiting { IsWaiting (table_in places.now) seat.old.token }
     requires at { at < places.now.count }
-    ensures seat { (seat.new.token.me.0.mark ≡ seat.old.token.me.0.mark) × (seat.new.token.me.0.seats ≡ seat.old.token.me.0.seats) }
-    ensures waiting { IsWaiting places.now.board.shared.table_id seat.new.token }
+    ensures seat { ((pass_of seat.new).mark ≡ (pass_of seat.old).mark) × ((pass_of seat.new).seats ≡ (pass_of seat.old).seats) }
+    ensures waiting { IsWaiting (table_in places.now) seat.new.token }
 {
     match enter(places, seat, at) {
         Ok(entered) => {
@@ -150,11 +151,11 @@ fn take_frame_1(
     entered: &mut Entered<Notes>,
 ) -> Option<EndpointId>
     requires at { entered.old.at < places.now.count }
-    requires driver { driver.old.token.me.0.mark ≡ driver.old.token.me.0.seats }
-    requires frames { (1 < places.now.frames) × (length driver.old.token.me.0.frames ≡ places.now.frames) }
-    requires inside { IsInside ⟦<Notes as Book>⟧.items ⟦<Notes as Book>⟧.birth ⟦<Notes as Book>⟧.stands ⟦<Notes as Book>⟧.moves places.now.board.shared.table_id entered.old.at driver.old.token entered.old.book }
-    ensures seat { (driver.new.token.me.0.mark ≡ driver.old.token.me.0.mark) × (driver.new.token.me.0.seats ≡ driver.old.token.me.0.seats) × (length driver.new.token.me.0.frames ≡ length driver.old.token.me.0.frames) }
-    ensures inside { (entered.new.at ≡ entered.old.at) × IsInside ⟦<Notes as Book>⟧.items ⟦<Notes as Book>⟧.birth ⟦<Notes as Book>⟧.stands ⟦<Notes as Book>⟧.moves places.now.board.shared.table_id entered.old.at driver.new.token entered.new.book }
+    requires driver { (pass_of driver.old).mark ≡ (pass_of driver.old).seats }
+    requires frames { (1 < places.now.frames) × (length (pass_of driver.old).frames ≡ places.now.frames) }
+    requires inside { IsInside ⟦<Notes as Book>⟧.items ⟦<Notes as Book>⟧.birth ⟦<Notes as Book>⟧.stands ⟦<Notes as Book>⟧.moves (table_in places.now) entered.old.at driver.old.token entered.old.book }
+    ensures seat { ((pass_of driver.new).mark ≡ (pass_of driver.old).mark) × ((pass_of driver.new).seats ≡ (pass_of driver.old).seats) × (length (pass_of driver.new).frames ≡ length (pass_of driver.old).frames) }
+    ensures inside { (entered.new.at ≡ entered.old.at) × IsInside ⟦<Notes as Book>⟧.items ⟦<Notes as Book>⟧.birth ⟦<Notes as Book>⟧.stands ⟦<Notes as Book>⟧.moves (table_in places.now) entered.old.at driver.new.token entered.new.book }
 {
     let Place::Host = entered.book.place else {
         return None;
@@ -174,11 +175,11 @@ fn take_frame_1(
 /// Puts a book in frame 1 onto the host.
 fn give_frame_1_up(places: &Places<Notes>, driver: &mut Seat<Notes>, entered: &mut Entered<Notes>)
     requires at { entered.old.at < places.now.count }
-    requires driver { driver.old.token.me.0.mark ≡ driver.old.token.me.0.seats }
-    requires frames { (1 < places.now.frames) × (length driver.old.token.me.0.frames ≡ places.now.frames) }
-    requires inside { IsInside ⟦<Notes as Book>⟧.items ⟦<Notes as Book>⟧.birth ⟦<Notes as Book>⟧.stands ⟦<Notes as Book>⟧.moves places.now.board.shared.table_id entered.old.at driver.old.token entered.old.book }
-    ensures seat { (driver.new.token.me.0.mark ≡ driver.old.token.me.0.mark) × (driver.new.token.me.0.seats ≡ driver.old.token.me.0.seats) × (length driver.new.token.me.0.frames ≡ length driver.old.token.me.0.frames) }
-    ensures inside { (entered.new.at ≡ entered.old.at) × IsInside ⟦<Notes as Book>⟧.items ⟦<Notes as Book>⟧.birth ⟦<Notes as Book>⟧.stands ⟦<Notes as Book>⟧.moves places.now.board.shared.table_id entered.old.at driver.new.token entered.new.book }
+    requires driver { (pass_of driver.old).mark ≡ (pass_of driver.old).seats }
+    requires frames { (1 < places.now.frames) × (length (pass_of driver.old).frames ≡ places.now.frames) }
+    requires inside { IsInside ⟦<Notes as Book>⟧.items ⟦<Notes as Book>⟧.birth ⟦<Notes as Book>⟧.stands ⟦<Notes as Book>⟧.moves (table_in places.now) entered.old.at driver.old.token entered.old.book }
+    ensures seat { ((pass_of driver.new).mark ≡ (pass_of driver.old).mark) × ((pass_of driver.new).seats ≡ (pass_of driver.old).seats) × (length (pass_of driver.new).frames ≡ length (pass_of driver.old).frames) }
+    ensures inside { (entered.new.at ≡ entered.old.at) × IsInside ⟦<Notes as Book>⟧.items ⟦<Notes as Book>⟧.birth ⟦<Notes as Book>⟧.stands ⟦<Notes as Book>⟧.moves (table_in places.now) entered.old.at driver.new.token entered.new.book }
 {
     let (Place::Frame(1), Some(1)) = (entered.book.place, entered.frame) else {
         return;
@@ -189,12 +190,12 @@ fn give_frame_1_up(places: &Places<Notes>, driver: &mut Seat<Notes>, entered: &m
 
 /// Moves the book at this position into frame 1. For whom it is claimed, if it is for another.
 fn load(places: &Places<Notes>, driver: &mut Seat<Notes>, at: usize) -> Option<EndpointId>
-    requires waiting { IsWaiting places.now.board.shared.table_id driver.old.token }
+    requires waiting { IsWaiting (table_in places.now) driver.old.token }
     requires at { at < places.now.count }
-    requires driver { driver.old.token.me.0.mark ≡ driver.old.token.me.0.seats }
-    requires frames { (1 < places.now.frames) × (length driver.old.token.me.0.frames ≡ places.now.frames) }
-    ensures seat { (driver.new.token.me.0.mark ≡ driver.old.token.me.0.mark) × (driver.new.token.me.0.seats ≡ driver.old.token.me.0.seats) × (length driver.new.token.me.0.frames ≡ length driver.old.token.me.0.frames) }
-    ensures waiting { IsWaiting places.now.board.shared.table_id driver.new.token }
+    requires driver { (pass_of driver.old).mark ≡ (pass_of driver.old).seats }
+    requires frames { (1 < places.now.frames) × (length (pass_of driver.old).frames ≡ places.now.frames) }
+    ensures seat { ((pass_of driver.new).mark ≡ (pass_of driver.old).mark) × ((pass_of driver.new).seats ≡ (pass_of driver.old).seats) × (length (pass_of driver.new).frames ≡ length (pass_of driver.old).frames) }
+    ensures waiting { IsWaiting (table_in places.now) driver.new.token }
 {
     let Ok(mut entered) = enter(places, driver, at) else {
         return None;
@@ -206,12 +207,12 @@ fn load(places: &Places<Notes>, driver: &mut Seat<Notes>, at: usize) -> Option<E
 
 /// Moves the book at this position out of frame 1.
 fn unload(places: &Places<Notes>, driver: &mut Seat<Notes>, at: usize)
-    requires waiting { IsWaiting places.now.board.shared.table_id driver.old.token }
+    requires waiting { IsWaiting (table_in places.now) driver.old.token }
     requires at { at < places.now.count }
-    requires driver { driver.old.token.me.0.mark ≡ driver.old.token.me.0.seats }
-    requires frames { (1 < places.now.frames) × (length driver.old.token.me.0.frames ≡ places.now.frames) }
-    ensures seat { (driver.new.token.me.0.mark ≡ driver.old.token.me.0.mark) × (driver.new.token.me.0.seats ≡ driver.old.token.me.0.seats) × (length driver.new.token.me.0.frames ≡ length driver.old.token.me.0.frames) }
-    ensures waiting { IsWaiting places.now.board.shared.table_id driver.new.token }
+    requires driver { (pass_of driver.old).mark ≡ (pass_of driver.old).seats }
+    requires frames { (1 < places.now.frames) × (length (pass_of driver.old).frames ≡ places.now.frames) }
+    ensures seat { ((pass_of driver.new).mark ≡ (pass_of driver.old).mark) × ((pass_of driver.new).seats ≡ (pass_of driver.old).seats) × (length (pass_of driver.new).frames ≡ length (pass_of driver.old).frames) }
+    ensures waiting { IsWaiting (table_in places.now) driver.new.token }
 {
     let Ok(mut entered) = enter(places, driver, at) else {
         return;
@@ -222,10 +223,10 @@ fn unload(places: &Places<Notes>, driver: &mut Seat<Notes>, at: usize)
 
 /// Five lines for the book at this position.
 fn five_lines(places: &Places<Notes>, seat: &mut Seat<Notes>, at: usize) -> bool
-    requires waiting { IsWaiting places.now.board.shared.table_id seat.old.token }
+    requires waiting { IsWaiting (table_in places.now) seat.old.token }
     requires at { at < places.now.count }
-    ensures seat { (seat.new.token.me.0.mark ≡ seat.old.token.me.0.mark) × (seat.new.token.me.0.seats ≡ seat.old.token.me.0.seats) × (seat.new.token.me.0.frames ≡ seat.old.token.me.0.frames) }
-    ensures waiting { IsWaiting places.now.board.shared.table_id seat.new.token }
+    ensures seat { ((pass_of seat.new).mark ≡ (pass_of seat.old).mark) × ((pass_of seat.new).seats ≡ (pass_of seat.old).seats) × ((pass_of seat.new).frames ≡ (pass_of seat.old).frames) }
+    ensures waiting { IsWaiting (table_in places.now) seat.new.token }
 {
     let mut done = true;
     for line in 1..=5 {
@@ -243,13 +244,13 @@ fn gather_four(
     first: Seat<Notes>,
     zeroth: Seat<Notes>,
 )
-    requires driver { IsWaiting places.now.board.shared.table_id driver.old.token × (driver.old.token.me.0.mark ≡ 5) × (driver.old.token.me.0.seats ≡ 5) }
-    requires third { IsWaiting places.now.board.shared.table_id third.token × (third.token.me.0.mark ≡ 4) }
-    requires second { IsWaiting places.now.board.shared.table_id second.token × (second.token.me.0.mark ≡ 3) }
-    requires first { IsWaiting places.now.board.shared.table_id first.token × (first.token.me.0.mark ≡ 2) }
-    requires zeroth { IsWaiting places.now.board.shared.table_id zeroth.token × (zeroth.token.me.0.mark ≡ 1) }
-    ensures table { driver.new.token.table_id ≡ places.now.board.shared.table_id }
-    ensures gathered { HasGathered driver.new.token.me.0 }
+    requires driver { IsWaiting (table_in places.now) driver.old.token × ((pass_of driver.old).mark ≡ 5) × ((pass_of driver.old).seats ≡ 5) }
+    requires third { IsWaiting (table_in places.now) third.token × ((pass_of third).mark ≡ 4) }
+    requires second { IsWaiting (table_in places.now) second.token × ((pass_of second).mark ≡ 3) }
+    requires first { IsWaiting (table_in places.now) first.token × ((pass_of first).mark ≡ 2) }
+    requires zeroth { IsWaiting (table_in places.now) zeroth.token × ((pass_of zeroth).mark ≡ 1) }
+    ensures table { SitsAt places.now driver.new }
+    ensures gathered { HasGathered (pass_of driver.new) }
 {
     places.gather(driver, third);
     places.gather(driver, second);

@@ -2,7 +2,7 @@
 use Rattle.std.specs.Prelude.{◌≡◌, ℕ, ◌<◌, Bool, true, List, [], Option, length}
 use Rattle.atomic_table.specs.Table.{Me}
 use Rattle.am_names.specs.declared.EndpointId.{EndpointId}
-use Rattle.am_places.specs.Rule.{Comes, gathered, has, inside_with, known_at, numbered, of, opener, outside, published_with, with_known}
+use Rattle.am_places.specs.Rule.{Comes, gathered, has, inside_with, known_at, seat_numbered, of, opener, outside, published_with, with_known}
 use Rattle.am_places.specs.declared.board.Pass.{Pass}
 use Rattle.am_places.specs.declared.board.Tenure.{Tenure}
 
@@ -13,7 +13,7 @@ SeesItsOwn k v = of v.mark (known_at k v).seen ≡ of v.mark (known_at k v).made
 module _ {B I T : Type 0} (items : B → List I) (birth : B → T) (stands : B → ℕ) (moves : I → Bool) where
   -- a seat that was just made does
   abbrev pub NewSeatsSeeTheirOwn : Type 0
-  NewSeatsSeeTheirOwn = (books : List B) (ids : List EndpointId) (seats frames n k : ℕ) → SeesItsOwn k (numbered n (opener items birth stands moves books ids seats frames))
+  NewSeatsSeeTheirOwn = (books : List B) (ids : List EndpointId) (seats frames n k : ℕ) → SeesItsOwn k (seat_numbered n (opener items birth stands moves books ids seats frames))
 
   -- it does when it has entered an endpoint, whatever others have added there
   abbrev pub EntersSeeTheirOwn : Type 0

@@ -48,8 +48,8 @@ declaration_of word =
     if bytes_eq word (codes "swapfault") then Some head.SwapFault else None
 
 -- a letter followed directly by a number
-abbrev pub numbered : ℕ → List ℕ → Option Head
-numbered letter digits =
+abbrev pub lettered : ℕ → List ℕ → Option Head
+lettered letter digits =
     if letter == 116 then option_map head.OfThread (number_of digits) else
     if letter == 105 then option_map head.OfInterface (number_of digits) else
     if letter == 100 then option_map head.OfDriver (number_of digits) else None
@@ -58,7 +58,7 @@ numbered letter digits =
 unfoldable pub actor_of : List ℕ → Option Head
 actor_of [] = None
 actor_of (letter ∷ digits) =
-    if bytes_eq (letter ∷ digits) (codes "x") then Some head.Outside else numbered letter digits
+    if bytes_eq (letter ∷ digits) (codes "x") then Some head.Outside else lettered letter digits
 
 -- what the first word says that a line is
 unfoldable pub head_of : Option Version → List ℕ → Option Head

@@ -5,7 +5,8 @@ ghost use Rattle.std.specs.Prelude.{◌<◌, ◌≤◌, length};
 use am_job::words::{CodedWord, Tally, WordCount, split};
 use am_job::{ask_script, counts, rounds};
 use am_names::{EndpointId, Message, MsgKind, Serial, Tag, Words};
-use am_office_entries::{Actor, Call, Entry, Event, Journal, Outcome};
+use am_office_entries::logged::LoggedJournal;
+use am_office_entries::{Actor, Call, Entry, Event, Outcome};
 use am_scenario_types::ScriptCall;
 use std::alloc::Global;
 use std::fmt::Write;
@@ -143,18 +144,21 @@ fn ask_all(alloc: Global, tally: &mut Tally, words: &[CodedWord]) -> Result<(), 
     Ok(())
 }
 
-// A journal in which these words run.
-fn journal_of(alloc: Global, words: &[CodedWord]) -> Result<Journal, Fail> {
+// The entries of a journal in which these words run.
+fn entries_of(alloc: Global, words: &[CodedWord]) -> Result<Vec<Entry>, Fail> {
     let mut entries = Vec::new(alloc);
     for word in words {
         entries.push(ran(word.words))?;
     }
-    Ok(Journal { entries })
+    Ok(entries)
 }
 
 // The counts of words that are sent, of which some run.
 fn counted(alloc: Global, sent: &[CodedWord], ran: &[CodedWord]) -> Result<Vec<WordCount>, Fail> {
-    let journal = journal_of(alloc, ran)?;
+    let entries = entries_of(alloc, ran)?;
+    let Ok(journal) = LoggedJournal::of(alloc, &entries) else {
+        return Err(no_memory());
+    };
     let mut tally = Tally::new(alloc);
     ask_all(alloc, &mut tally, sent)?;
     let Ok(()) = tally.see_journal(alloc, &journal) else {
@@ -226,8 +230,8 @@ fn words_that_did_not_run_are_left(rt: HostRuntime) -> Result<(), Fail> {
         return Err(no_memory());
     };
     assert!(rt; job.rounds.len() == 1);
-    let journal = Journal {
-        entries: Vec::new(rt.alloc()),
+    let Ok(journal) = LoggedJournal::of(rt.alloc(), &[]) else {
+        return Err(no_memory());
     };
     let Ok(rows) = counts(rt.alloc(), &job, &[journal]) else {
         return Err(no_memory());

@@ -5,7 +5,8 @@ ghost use Rattle.std.specs.Prelude.{◌≤◌, IfOk, length};
 use crate::segments::tables::{HEAD, OTHER_FAULTS, OWN_FAULTS};
 use am_lexer::What;
 use am_names::{EndpointId, Message, MsgKind, Serial, Tag, Words};
-use am_office_entries::{Actor, Call, Entry, Event, Journal, Outcome};
+use am_office_entries::logged::LoggedJournal;
+use am_office_entries::{Actor, Call, Entry, Event, Outcome};
 use am_scenario::{ReadFault, Scenario};
 use am_segment::{
     Expanded, SegmentLine, SegmentScenario, TransferRan, expand, piece, read_segments,
@@ -231,7 +232,7 @@ fn overlapping_pieces(rt: HostRuntime) -> Result<(), Fail> {
             short(6, 0, 1, 0x6600_0000_0000_0000)
         ),
     ]?;
-    let journal = Journal { entries };
+    let journal = LoggedJournal::of(alloc, &entries).ok().ok_or("no memory")?;
     let segment = SegmentLine {
         end: EndpointId(1),
         handler: 1,
@@ -245,14 +246,14 @@ fn overlapping_pieces(rt: HostRuntime) -> Result<(), Fail> {
 }
 
 // The runs that the requests of a scenario's scripts make, at endpoint 1.
-fn all_run(alloc: Global, scenario: &Scenario) -> Result<Journal, Fail> {
+fn all_run(alloc: Global, scenario: &Scenario) -> Result<Vec<Entry>, Fail> {
     let mut entries = Vec::new(alloc);
     for line in &scenario.script {
         if let Call::Request { handler, words, .. } = line.call {
             entries.push(ran(1, handler, MsgKind::Request, words))?;
         }
     }
-    Ok(Journal { entries })
+    Ok(entries)
 }
 
 const FRONT: &str = "segment 1 3 600\n\
@@ -279,7 +280,8 @@ fn read_of(alloc: Global, text: &str) -> Result<SegmentScenario, Fail>
 fn told(alloc: Global, read: &SegmentScenario) -> Result<(Vec<TransferRan>, Vec<u8>), Fail>
     requires { length read.now.expanded.transfers ≤ 16384 }
 {
-    let journal = all_run(alloc, &read.scenario)?;
+    let entries = all_run(alloc, &read.scenario)?;
+    let journal = LoggedJournal::of(alloc, &entries).ok().ok_or("no memory")?;
     let expanded = &read.expanded;
     let rows = transfers_ran(alloc, &journal, &expanded.segments, &expanded.transfers)
         .ok()

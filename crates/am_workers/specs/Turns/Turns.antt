@@ -49,7 +49,7 @@ pub record IsWant (thread clock : ℕ) (set : EndSettings) (log : List Entry) (x
   pub low : max clock (last_stamp log) < 2 ^ 63
 
 -- a call is due: the endpoint is in memory, or is on disk and was not wanted; and a stamp may follow
-pub record IsDue (clock : ℕ) (set : EndSettings) (log : List Entry) : Type 0 where
+pub record IsCallDue (clock : ℕ) (set : EndSettings) (log : List Entry) : Type 0 where
   pub unwanted : is_on_disk (state_by set log).head.place ≡ true → (state_by set log).head.wanted ≡ false
   pub low : max clock (last_stamp log) < 2 ^ 63
 
@@ -59,9 +59,9 @@ ThreadFound thread call clock (Turns.Made x) set log = IsCall thread call clock 
 ThreadFound thread call clock (Turns.Wanted x) set log = IsWant thread clock set log x
 ThreadFound thread call clock (Turns.Busy holder) set log = ⊥
 ThreadFound thread call clock Turns.Waits set log = (is_on_disk (state_by set log).head.place ≡ true) × ((state_by set log).head.wanted ≡ true)
-ThreadFound thread call clock Turns.Full set log = IsDue clock set log × (length log ≡ set.log)
+ThreadFound thread call clock Turns.Full set log = IsCallDue clock set log × (length log ≡ set.log)
 ThreadFound thread call clock Turns.Spent set log = 2 ^ 63 ≤ max clock (last_stamp log)
-ThreadFound thread call clock Turns.NoMemory set log = IsDue clock set log × (length log ≢ set.log)
+ThreadFound thread call clock Turns.NoMemory set log = IsCallDue clock set log × (length log ≢ set.log)
 
 -- what it added
 abbrev pub made_in : ThreadTurn → List Entry

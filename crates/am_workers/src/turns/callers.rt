@@ -6,6 +6,7 @@ ghost use Rattle.am_workers.specs.Turns.Turns.{clock_after};
 ghost use Rattle.am_workers_laws.specs.Invariants.Seats.{IsIdle, SameSeat};
 ghost use Rattle.am_workers_laws.specs.Invariants.Works.{ThreadWorks};
 ghost use Rattle.std.specs.Prelude.{◌≡◌, ◌≢◌, ◌+◌, ◌≤◌, ℕ, IfNone, IfSome, Some, length, position, slice_get};
+ghost use Rattle.am_places.specs.Seats.{pass_of, table_in};
 
 use crate::turns::threads::thread_turn;
 use crate::turns::turns::ThreadTurn;
@@ -57,18 +58,18 @@ pub fn call_turn(
     next: &mut usize,
     clock: &mut u64,
 ) -> Option<ThreadTurn>
-    requires idle { IsIdle places.now.board.shared.table_id seat.old.token }
+    requires idle { IsIdle (table_in places.now) seat.old.token }
     requires count { places.now.count ≡ length ids.now }
-    requires guest { seat.old.token.me.0.mark ≢ seat.old.token.me.0.seats }
-    requires numbers { HaveRange seat.old.token.me.0 script.now }
+    requires guest { (pass_of seat.old).mark ≢ (pass_of seat.old).seats }
+    requires numbers { HaveRange (pass_of seat.old) script.now }
     requires few { length script.now ≤ 65536 }
-    ensures idle { IsIdle places.now.board.shared.table_id seat.new.token }
-    ensures seat { SameSeat seat.old.token.me.0 seat.new.token.me.0 }
+    ensures idle { IsIdle (table_in places.now) seat.new.token }
+    ensures seat { SameSeat (pass_of seat.old) (pass_of seat.new) }
     ensures next { IfSome result (λ turn. next.new ≡ next_after next.old turn) }
     ensures clock { IfSome result (λ turn. clock.new ≡ clock_after clock.old turn) }
     ensures none { IfNone result ((next.new ≡ next.old) × (clock.new ≡ clock.old)) }
-    ensures turn { CallTurns ids.now script.now thread next.old clock.old seat.old.token.me.0 seat.new.token.me.0 result }
-    ensures works { (s : ScenarioLists) (turns : ℕ) → IsScript s thread script.now → ThreadWorks s ids.now thread turns next.old clock.old seat.old.token.me.0 → ThreadWorks s ids.now thread (turns + 1) next.new clock.new seat.new.token.me.0 }
+    ensures turn { CallTurns ids.now script.now thread next.old clock.old (pass_of seat.old) (pass_of seat.new) result }
+    ensures works { (s : ScenarioLists) (turns : ℕ) → IsScript s thread script.now → ThreadWorks s ids.now thread turns next.old clock.old (pass_of seat.old) → ThreadWorks s ids.now thread (turns + 1) next.new clock.new (pass_of seat.new) }
 {
     let Some(call) = call_at(script, *next) else {
         return None;

@@ -8,6 +8,7 @@ ghost use Rattle.am_workers.specs.Turns.Turns.{InterfaceTurns};
 ghost use Rattle.std.specs.Prelude.{◌≡◌, ◌≢◌, ◌<◌, Some};
 ghost use lib.ListN.{get_elem?};
 ghost use mathlib.Core.Option.{some};
+ghost use Rattle.am_places.specs.Seats.{pass_of, table_in};
 
 use crate::turns::turns::InterfaceTurn;
 use crate::turns::works::work_at;
@@ -25,15 +26,15 @@ pub fn interface_turn(
     set: &IfaceSettings,
     work: &Work,
 ) -> InterfaceTurn
-    requires idle { IsIdle places.now.board.shared.table_id seat.old.token }
+    requires idle { IsIdle (table_in places.now) seat.old.token }
     requires at { at < places.now.count }
-    requires guest { seat.old.token.me.0.mark ≢ seat.old.token.me.0.seats }
+    requires guest { (pass_of seat.old).mark ≢ (pass_of seat.old).seats }
     requires lawful { AreLawful set.now }
     requires set { set.now ≡ interface.old.settings }
     requires fits { FitsInterface interface.old work.now }
-    requires needs { (set : EndSettings) → get_elem? seat.old.token.me.0.births at ≡ some set → needs (own interface.old) work.now ≡ Some set.id }
-    ensures idle { IsIdle places.now.board.shared.table_id seat.new.token }
-    ensures turn { InterfaceTurns at work.now interface.old interface.new seat.old.token.me.0 seat.new.token.me.0 result }
+    requires needs { (set : EndSettings) → get_elem? (pass_of seat.old).births at ≡ some set → needs (own interface.old) work.now ≡ Some set.id }
+    ensures idle { IsIdle (table_in places.now) seat.new.token }
+    ensures turn { InterfaceTurns at work.now interface.old interface.new (pass_of seat.old) (pass_of seat.new) result }
 {
     match places.try_enter_at(seat, at) {
         Ok(entered) => {

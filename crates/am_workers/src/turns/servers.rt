@@ -12,6 +12,7 @@ ghost use Rattle.am_workers_laws.specs.Invariants.Works.{InterfaceWorks};
 ghost use Rattle.std.specs.Prelude.{◌≡◌, ◌≢◌, ◌+◌, ◌++◌, ℕ, IfSome, List, Some, length, slice_get};
 ghost use lib.ListN.{get_elem?};
 ghost use mathlib.Core.Option.{some};
+ghost use Rattle.am_places.specs.Seats.{pass_of, table_in};
 
 use crate::turns::services::work_turn;
 use crate::turns::turns::InterfaceTurn;
@@ -52,22 +53,22 @@ pub fn serve(
     work: &Work,
     hand: &mut Option<(NodeId, Packet)>,
 ) -> InterfaceTurn
-    requires idle { IsIdle places.now.board.shared.table_id seat.old.token }
+    requires idle { IsIdle (table_in places.now) seat.old.token }
     requires count { places.now.count ≡ length ids.now }
-    requires guest { seat.old.token.me.0.mark ≢ seat.old.token.me.0.seats }
-    requires births { (k : ℕ) (set : EndSettings) → get_elem? seat.old.token.me.0.births k ≡ some set → slice_get ids.now k ≡ Some set.id }
+    requires guest { (pass_of seat.old).mark ≢ (pass_of seat.old).seats }
+    requires births { (k : ℕ) (set : EndSettings) → get_elem? (pass_of seat.old).births k ≡ some set → slice_get ids.now k ≡ Some set.id }
     requires lawful { AreLawful set.now }
     requires set { set.now ≡ interface.old.settings }
     requires hand { HandHolds hand.old work.now }
-    ensures idle { IsIdle places.now.board.shared.table_id seat.new.token }
-    ensures seat { SameSeat seat.old.token.me.0 seat.new.token.me.0 }
-    ensures turn { WorkTurns work.now interface.old interface.new seat.old.token.me.0 seat.new.token.me.0 result }
-    ensures why { WhyTurned ids.now work.now interface.old seat.old.token.me.0 seat.new.token.me.0 result }
+    ensures idle { IsIdle (table_in places.now) seat.new.token }
+    ensures seat { SameSeat (pass_of seat.old) (pass_of seat.new) }
+    ensures turn { WorkTurns work.now interface.old interface.new (pass_of seat.old) (pass_of seat.new) result }
+    ensures why { WhyTurned ids.now work.now interface.old (pass_of seat.old) (pass_of seat.new) result }
     ensures hand { hand.new ≡ hand_after hand.old work.now result }
     ensures settings { interface.new.settings ≡ interface.old.settings }
     ensures out { IfSome (out_of result) (GoesOut interface.old) }
     ensures sends { (to : NodeId) → emitted interface.old.settings.node to interface.new.log ≡ emitted interface.old.settings.node to interface.old.log ++ sent_to to (out_of result) }
-    ensures works { (s : ScenarioLists) (turns : ℕ) (sent sends taken : NodeId → List Packet) → IsInterfaceOf s interface.old → InterfaceWorks s ids.now interface.old.settings.node turns interface.old.log sent taken hand.old seat.old.token.me.0 → ((to : NodeId) → sends to ≡ emitted interface.old.settings.node to interface.new.log) → InterfaceWorks s ids.now interface.old.settings.node (turns + 1) interface.new.log sends taken hand.new seat.new.token.me.0 }
+    ensures works { (s : ScenarioLists) (turns : ℕ) (sent sends taken : NodeId → List Packet) → IsInterfaceOf s interface.old → InterfaceWorks s ids.now interface.old.settings.node turns interface.old.log sent taken hand.old (pass_of seat.old) → ((to : NodeId) → sends to ≡ emitted interface.old.settings.node to interface.new.log) → InterfaceWorks s ids.now interface.old.settings.node (turns + 1) interface.new.log sends taken hand.new (pass_of seat.new) }
 {
     needs_is_touched();
     let turn = work_turn(places, seat, ids, interface, set, work);

@@ -13,6 +13,7 @@ ghost use Rattle.am_workers.specs.Turns.Turns.{AloneTurns, FoundThere, HasTries,
 ghost use Rattle.std.specs.Prelude.{◌≡◌, ◌≢◌, ◌<◌, ◌^◌, ℕ, IsTrue, true, None, Some, length, slice_get};
 ghost use lib.ListN.{get_elem?};
 ghost use mathlib.Core.Option.{some};
+ghost use Rattle.am_places.specs.Seats.{pass_of, table_in};
 
 use crate::turns::callers::place_of;
 use crate::turns::fits::{fits, is_ranged};
@@ -120,17 +121,17 @@ fn with_turn(
     work: &Work,
     end: EndpointId,
 ) -> InterfaceTurn
-    requires idle { IsIdle places.now.board.shared.table_id seat.old.token }
+    requires idle { IsIdle (table_in places.now) seat.old.token }
     requires count { places.now.count ≡ length ids.now }
-    requires guest { seat.old.token.me.0.mark ≢ seat.old.token.me.0.seats }
-    requires births { (k : ℕ) (set : EndSettings) → get_elem? seat.old.token.me.0.births k ≡ some set → slice_get ids.now k ≡ Some set.id }
+    requires guest { (pass_of seat.old).mark ≢ (pass_of seat.old).seats }
+    requires births { (k : ℕ) (set : EndSettings) → get_elem? (pass_of seat.old).births k ≡ some set → slice_get ids.now k ≡ Some set.id }
     requires lawful { AreLawful set.now }
     requires set { set.now ≡ interface.old.settings }
     requires fits { FitsInterface interface.old work.now }
     requires needs { needs (own interface.old) work.now ≡ Some end }
-    ensures idle { IsIdle places.now.board.shared.table_id seat.new.token }
-    ensures turn { WorkTurns work.now interface.old interface.new seat.old.token.me.0 seat.new.token.me.0 result }
-    ensures why { FoundThere ids.now end work.now interface.old seat.old.token.me.0 seat.new.token.me.0 result }
+    ensures idle { IsIdle (table_in places.now) seat.new.token }
+    ensures turn { WorkTurns work.now interface.old interface.new (pass_of seat.old) (pass_of seat.new) result }
+    ensures why { FoundThere ids.now end work.now interface.old (pass_of seat.old) (pass_of seat.new) result }
 {
     match place_of(ids, end) {
         None => InterfaceTurn::NotYet,
@@ -148,15 +149,15 @@ pub fn work_turn(
     set: &IfaceSettings,
     work: &Work,
 ) -> InterfaceTurn
-    requires idle { IsIdle places.now.board.shared.table_id seat.old.token }
+    requires idle { IsIdle (table_in places.now) seat.old.token }
     requires count { places.now.count ≡ length ids.now }
-    requires guest { seat.old.token.me.0.mark ≢ seat.old.token.me.0.seats }
-    requires births { (k : ℕ) (set : EndSettings) → get_elem? seat.old.token.me.0.births k ≡ some set → slice_get ids.now k ≡ Some set.id }
+    requires guest { (pass_of seat.old).mark ≢ (pass_of seat.old).seats }
+    requires births { (k : ℕ) (set : EndSettings) → get_elem? (pass_of seat.old).births k ≡ some set → slice_get ids.now k ≡ Some set.id }
     requires lawful { AreLawful set.now }
     requires set { set.now ≡ interface.old.settings }
-    ensures idle { IsIdle places.now.board.shared.table_id seat.new.token }
-    ensures turn { WorkTurns work.now interface.old interface.new seat.old.token.me.0 seat.new.token.me.0 result }
-    ensures why { WhyTurned ids.now work.now interface.old seat.old.token.me.0 seat.new.token.me.0 result }
+    ensures idle { IsIdle (table_in places.now) seat.new.token }
+    ensures turn { WorkTurns work.now interface.old interface.new (pass_of seat.old) (pass_of seat.new) result }
+    ensures why { WhyTurned ids.now work.now interface.old (pass_of seat.old) (pass_of seat.new) result }
     ensures ranged { IfMade result (IsRanged set.now work.now) }
 {
     if !fits_here(interface, set, work) {

@@ -6,6 +6,7 @@ ghost use Rattle.am_model.specs.Allowed.{are_numbers_in_range};
 ghost use Rattle.std.specs.Prelude.{◌≡◌, ◌≢◌, ◌<◌, true};
 ghost use lib.ListN.{get_elem?};
 ghost use mathlib.Core.Option.{some};
+ghost use Rattle.am_places.specs.Seats.{pass_of, table_in};
 
 use crate::turns::calls::act;
 use crate::turns::turns::ThreadTurn;
@@ -38,13 +39,13 @@ pub fn thread_turn(
     call: Call,
     clock: &mut u64,
 ) -> ThreadTurn
-    requires idle { IsIdle places.now.board.shared.table_id seat.old.token }
+    requires idle { IsIdle (table_in places.now) seat.old.token }
     requires at { at < places.now.count }
-    requires guest { seat.old.token.me.0.mark ≢ seat.old.token.me.0.seats }
-    requires numbers { (set : EndSettings) → get_elem? seat.old.token.me.0.births at ≡ some set → are_numbers_in_range set.pool call ≡ true }
-    ensures idle { IsIdle places.now.board.shared.table_id seat.new.token }
+    requires guest { (pass_of seat.old).mark ≢ (pass_of seat.old).seats }
+    requires numbers { (set : EndSettings) → get_elem? (pass_of seat.old).births at ≡ some set → are_numbers_in_range set.pool call ≡ true }
+    ensures idle { IsIdle (table_in places.now) seat.new.token }
     ensures clock { clock.new ≡ clock_after clock.old result }
-    ensures turn { ThreadTurns at thread call clock.old seat.old.token.me.0 seat.new.token.me.0 result }
+    ensures turn { ThreadTurns at thread call clock.old (pass_of seat.old) (pass_of seat.new) result }
 {
     match places.try_enter_at(seat, at) {
         Ok(entered) => {

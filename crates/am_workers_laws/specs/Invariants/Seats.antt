@@ -12,7 +12,7 @@ use Rattle.am_endpoint.specs.View.{state_by}
 use Rattle.am_model.specs.Endpoint.{State, fresh, is_on_disk}
 use Rattle.am_model.specs.Layout.{EndSetting, Layout, opening}
 use Rattle.am_model_merge.specs.Logs.{IsRising}
-use Rattle.am_places.specs.Rule.{Begins, IsOutside, Met, calm, holder_word, inside_with, joined, known_at, of, read, with_known}
+use Rattle.am_places.specs.Rule.{Begins, IsOutside, Met, calm, holder_word, inside_with, joined, known_at, of, read, with_known, hand_in, pass_in}
 use Rattle.am_places.specs.declared.board.Pass.{Pass}
 use Rattle.am_places.specs.declared.board.Tenure.{Tenure}
 use Rattle.am_workers_laws.specs.Books.Books.{moves}
@@ -30,8 +30,8 @@ Ids = List EndpointId
 -- the seat is between turns, with no book in its hand
 pub record IsIdle {B : Type 0} (id : TableId) (token : Seat (Option B) EndPass) : Type 0 where
   pub table : token.table_id ≡ id
-  pub hand : token.me.1 ≡ []
-  pub outside : IsOutside token.me.0
+  pub hand : hand_in token ≡ []
+  pub outside : IsOutside (pass_in token)
 
 -- an endpoint was born as the layout says
 pub record IsBorn (layout : Layout) (set : EndSettings) : Type 0 where

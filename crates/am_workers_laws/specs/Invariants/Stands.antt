@@ -10,7 +10,7 @@ use Rattle.am_model.specs.Layout.{AllAre, AreApart}
 use Rattle.am_model_merge.specs.Logs.{IsRising}
 use Rattle.am_workers_laws.specs.declared.books.EndBook.{EndBook}
 use Rattle.am_workers_laws.specs.Books.Books.{moves, stands_at}
-use Rattle.am_places.specs.Rule.{numbered, opener}
+use Rattle.am_places.specs.Rule.{seat_numbered, opener}
 use Rattle.am_places.specs.declared.board.Tenure.{Tenure}
 use Rattle.am_workers_laws.specs.Phases.Then.{StandsAfter}
 use Rattle.am_workers_laws.specs.Invariants.Seats.{EndPass, Ids, KnowsNode, Stays}
@@ -39,7 +39,7 @@ AboveLast = (log : List Entry) (n : ℕ) → IsRising log → last_stamp log < n
 
 -- a seat that was just made, of places whose books have no entries
 abbrev pub fresh_pass : List EndBook → List EndpointId → ℕ → ℕ → ℕ → EndPass
-fresh_pass books named k seats frames = numbered k (opener (λ (b : EndBook). b.end.value.log) (λ (b : EndBook). b.end.value.settings) (λ (b : EndBook). stands_at b.end.value) moves books named seats frames)
+fresh_pass books named k seats frames = seat_numbered k (opener (λ (b : EndBook). b.end.value.log) (λ (b : EndBook). b.end.value.settings) (λ (b : EndBook). stands_at b.end.value) moves books named seats frames)
 
 -- knows its node, where no endpoint has two places: it made nothing
 abbrev pub FreshKnow : Type 0

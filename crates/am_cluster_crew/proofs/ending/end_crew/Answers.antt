@@ -6,7 +6,7 @@ use Rattle.am_workers_laws.specs.declared.books.EndBook.{EndBook}
 use Rattle.am_places.specs.Rule.{HasGathered, IsOutside, gathered}
 use Rattle.am_workers_laws.specs.Invariants.Seats.{EndPass}
 use Rattle.am_workers_laws.specs.Ended.{IsTakenOut}
-use Rattle.am_cluster_crew.specs.Ends.Ends.{pass_of, passes_of, whole_of}
+use Rattle.am_cluster_crew.specs.Ends.Ends.{thread_pass, passes_of, whole_of}
 use Rattle.am_cluster_crew.proofs.Gathered.{gathered_push, outside_all}
 use Rattle.am_cluster_crew.proofs.ending.end_crew.Goals as goal
 
@@ -19,7 +19,7 @@ take_out_all-books-requires-clause-gathered c =
     let whole : c.gather.new.keeper.token.me.0 ≡ whole_of c.args.crew =
     ap (λ (m : Me (Option EndBook) EndPass). m.0) c.gather.ensures.gathered
     ∙ ap (λ (m : Me (Option EndBook) EndPass). gathered m.0 c.args.crew.interface.seat.token.me.0) c.gather_threads.ensures.gathered
-    ∙ sym (gathered_push c.args.crew.driver.seat.token.me.0 (map pass_of c.args.crew.threads.items) c.args.crew.interface.seat.token.me.0)
+    ∙ sym (gathered_push c.args.crew.driver.seat.token.me.0 (map thread_pass c.args.crew.threads.items) c.args.crew.interface.seat.token.me.0)
     in
     subst (λ (v : EndPass). HasGathered v) (sym whole) (c.a_crew_is_gathered.ensures c.args.scenario.now c.args.crew.node c.args.scenario.now.turns c.args.crew
     c.requires.crew (omega arith))
@@ -29,7 +29,7 @@ take_out_all-books-requires-clause-outside c =
     let whole : c.gather.new.keeper.token.me.0 ≡ whole_of c.args.crew =
     ap (λ (m : Me (Option EndBook) EndPass). m.0) c.gather.ensures.gathered
     ∙ ap (λ (m : Me (Option EndBook) EndPass). gathered m.0 c.args.crew.interface.seat.token.me.0) c.gather_threads.ensures.gathered
-    ∙ sym (gathered_push c.args.crew.driver.seat.token.me.0 (map pass_of c.args.crew.threads.items) c.args.crew.interface.seat.token.me.0)
+    ∙ sym (gathered_push c.args.crew.driver.seat.token.me.0 (map thread_pass c.args.crew.threads.items) c.args.crew.interface.seat.token.me.0)
     in
     subst (λ (v : EndPass). IsOutside v) (sym whole) (outside_all c.args.crew.driver.seat.token.me.0 (passes_of c.args.crew)
     c.requires.crew.driver.idle.outside)
@@ -39,7 +39,7 @@ returns c =
     let whole : c.gather.new.keeper.token.me.0 ≡ whole_of c.args.crew =
     ap (λ (m : Me (Option EndBook) EndPass). m.0) c.gather.ensures.gathered
     ∙ ap (λ (m : Me (Option EndBook) EndPass). gathered m.0 c.args.crew.interface.seat.token.me.0) c.gather_threads.ensures.gathered
-    ∙ sym (gathered_push c.args.crew.driver.seat.token.me.0 (map pass_of c.args.crew.threads.items) c.args.crew.interface.seat.token.me.0)
+    ∙ sym (gathered_push c.args.crew.driver.seat.token.me.0 (map thread_pass c.args.crew.threads.items) c.args.crew.interface.seat.token.me.0)
     in
     let taken = c.take_out_all-books.ensures.taken in
     record {

@@ -1,7 +1,7 @@
 use Rattle.std.proofs.Common.{◌≡◌, ◌∙◌, length, refl, subst, arith}
 use Rattle.std.proofs.lemmas.Option.{get_or_from_slice_get, slice_get_read, slice_get_within}
 use Rattle.am_cluster_crew.specs.Running.{SameThread}
-use Rattle.am_cluster_opening.specs.Node.Openings.{table_in}
+use Rattle.am_places.specs.Seats.{table_in}
 use Rattle.am_workers.specs.AtWork.{IsThreadAtWork}
 use Rattle.am_workers.specs.declared.workers.ThreadWorker.{ThreadWorker}
 use Rattle.am_cluster_crew.proofs.running.run_threads.Goals as goal

@@ -1,5 +1,5 @@
 use Rattle.std.proofs.Common.{sym, subst}
-use Rattle.am_example_reduce.specs.Rounds.{Tells}
+use Rattle.am_example_reduce.specs.Rounds.{SendsSum}
 use Rattle.am_example_reduce.proofs.Scripts.{tells_begin}
 use Rattle.am_example_reduce.proofs.rounds.tell.Goals as goal
 
@@ -10,4 +10,4 @@ pub loop-node-preserved : goal.loop-node-preserved
 loop-node-preserved c = c.in_ok-note.ensures c.args.plan.now c.loop-node.invariant
 
 pub returns-clause-tells : goal.returns-clause-tells
-returns-clause-tells c = subst (Tells c.args.plan.now c.args.sum) (sym c.finish.ensures.same) c.loop-node.invariant
+returns-clause-tells c = subst (SendsSum c.args.plan.now c.args.sum) (sym c.finish.ensures.same) c.loop-node.invariant

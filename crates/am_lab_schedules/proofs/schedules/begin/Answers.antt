@@ -1,9 +1,11 @@
-use Rattle.std.proofs.Common.{[]}
-use Rattle.am_office_report.specs.Report.{told}
+use Rattle.std.proofs.Common.{◌≡◌, ℕ, [], Option}
+use Rattle.am_lab_schedules.specs.Schedules.{IsMade}
 use Rattle.am_lab_schedules.proofs.Seeds.{first_told}
+use Rattle.am_office_report.specs.Report.{told}
+use Rattle.am_scenario_types.specs.Lists.{ScenarioLists}
 use Rattle.am_lab_schedules.proofs.schedules.begin.Goals as goal
 
 pub returns : goal.returns
 returns c =
-    let tells = c.tell.ensures (told c.in_ok-run.run'.journal) [] c.in_ok-telling.ensures in
-    first_told c.args.scenario.now c.args.seed c.in_ok-run.run' c.tell.result c.in_ok-run.ensures.seed c.in_ok-run.ensures.made tells
+    λ (faults : Option ℕ) (s : ScenarioLists) (seed : ℕ) (is : c.args.run.seed ≡ seed) (made : IsMade faults s c.args.run).
+    first_told faults s seed c.args.run c.tell.result is made (c.tell.ensures (told c.args.run.journal) [] c.in_ok-telling.ensures)

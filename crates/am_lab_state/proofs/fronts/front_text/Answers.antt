@@ -5,7 +5,7 @@ use Rattle.am_lexer.specs.Text.{lines_of}
 use Rattle.am_model.specs.Layout.{Layout}
 use Rattle.am_model_scripts.specs.Layout.{layout_of}
 use Rattle.am_office_entries.specs.declared.Entry.{Entry}
-use Rattle.am_lab_reasons.specs.Journal.Lines.{AreLines, HasPlace}
+use Rattle.am_lab_reasons.specs.Journal.Lines.{AreLines, IsBehindLines}
 use Rattle.am_lab_reasons.proofs.Reported.{reported}
 use Rattle.am_lab_state.specs.Texts.{state_text}
 use Rattle.am_lab_state.proofs.Fronting.{front_fits, front_lines, front_number, front_place, front_short, left_behind}
@@ -18,7 +18,7 @@ overflow_add-count c =
 
 pub reach-requires-clause-place : goal.reach-requires-clause-place
 reach-requires-clause-place c =
-    subst (λ (l : Layout). HasPlace l c.args.bytes.now (c.args.count + 3)) (sym c.in_ok-cluster.ensures.layout)
+    subst (λ (l : Layout). IsBehindLines l c.args.bytes.now (c.args.count + 3)) (sym c.in_ok-cluster.ensures.layout)
     (front_place c.requires.front.0 c.args.scenario.now c.requires.lawful c.args.bytes.now c.requires.few c.args.count c.requires.front.1)
 
 pub returns : goal.returns

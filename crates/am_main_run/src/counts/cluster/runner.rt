@@ -23,7 +23,7 @@ fn see_run(alloc: Global, tally: &mut Tally, journal: &RunJournal) -> Result<(),
     ensures { OnOk result (tally.new ≡ see_journal tally.old journal.now) }
 {
     let logged = journal.logged(alloc)?;
-    tally.see_logged(alloc, &logged)
+    tally.see_journal(alloc, &logged)
 }
 
 impl Runner for ClusterRunner {

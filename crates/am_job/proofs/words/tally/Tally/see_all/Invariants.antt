@@ -1,6 +1,0 @@
-use Rattle.std.proofs.Common.{◌≡◌, take}
-use Rattle.am_job.specs.Words.Counts.{see_journal}
-use Rattle.am_job.proofs.words.tally.Tally.see_all.Given as goal
-
-abbrev pub invariant-loop-entry : goal.invariant-loop-entry
-invariant-loop-entry l = l.self ≡ see_journal l.fn.self (take l.entry-index l.entries)
