@@ -1,4 +1,5 @@
 pub mod Making
 pub mod Looking
 pub mod Moving
+pub mod Entering
 pub mod Turning
