@@ -44,7 +44,7 @@ pub record HasSettled (clock k : ℕ) (event : Event) (view view' : ViewLists) (
   pub added : c.end.value.log ≡ b.end.value.log ++ added_by r
 
 module _ {frames : ℕ} {node : NodeId} {view : ViewLists} {device : Device} {event : Event} {k at : ℕ} {me now : M} {b : EndBook}
-  (m : HasEntered frames node view device event k at me now b)
+    (m : HasEntered frames node view device event k at me now b)
   where
     abbrev set : EndSettings
     set = b.end.value.settings
@@ -69,31 +69,31 @@ module _ {frames : ℕ} {node : NodeId} {view : ViewLists} {device : Device} {ev
     may_move still = can_there frames node view device me.0 k set log event past m.there.2.stands_for m.drives found m.chosen still
 
     module _ (clock : ℕ) (view' : ViewLists) (device' : Device) (r : Answer) (d : DecideFound k clock event view view' device device' r set past) where
-        seen : DecideFound k clock event view view' device device' r set (joined log)
-        seen = decided_there k clock event view view' device device' r set log past m.there.2.stands_for d
+      seen : DecideFound k clock event view view' device device' r set (joined log)
+      seen = decided_there k clock event view view' device device' r set log past m.there.2.stands_for d
 
-        pub may_settle : (frame : Option ℕ) → frame ≡ claimed → SettlesAfter at r frame frames now.0.frames
-        may_settle frame is =
-            coe 0 1 (i. SettlesAfter (sym m.there.1 i) r ((code ∙ sym is) i) frames (ap (λ (z : M). z.0.frames) (sym m.there.3) i))
-            (settles_after frames node view device me.0 k set log event m.drives found m.chosen clock view' device' r seen)
+      pub may_settle : (frame : Option ℕ) → frame ≡ claimed → SettlesAfter at r frame frames now.0.frames
+      may_settle frame is =
+          coe 0 1 (i. SettlesAfter (sym m.there.1 i) r ((code ∙ sym is) i) frames (ap (λ (z : M). z.0.frames) (sym m.there.3) i))
+          (settles_after frames node view device me.0 k set log event m.drives found m.chosen clock view' device' r seen)
 
-        kept_frames : now.0.frames ≡ me.0.frames
-        kept_frames = ap (λ (z : M). z.0.frames) m.there.3
+      kept_frames : now.0.frames ≡ me.0.frames
+      kept_frames = ap (λ (z : M). z.0.frames) m.there.3
 
-        pub settled : (frame : Option ℕ) → frame ≡ claimed → {last : ℕ} {between : M} {c made : EndBook} → (last ≡ at) × (c ≡ made)
-            → between ≡ (with_frames (frames_of at r frame now.0.frames) now.0, now.1) → made.end.value.settings ≡ set → made.end.value.log ≡ past ++ added_by r →
-            HasSettled clock k event view view' device device' me now b r last between c
-        settled frame is book framed settings added =
-            record {
-              found = d;
-              same = book.0 ∙ m.there.1;
-              framed = framed ∙ (λ i. (with_frames (frames_of (m.there.1 i) r (is i) (kept_frames i)) now.0, now.1));
-              settings = ap (λ (x : EndBook). x.end.value.settings) book.1 ∙ settings;
-              added = ap (λ (x : EndBook). x.end.value.log) book.1 ∙ added;
-            }
+      pub settled : (frame : Option ℕ) → frame ≡ claimed → {last : ℕ} {between : M} {c made : EndBook} → (last ≡ at) × (c ≡ made)
+          → between ≡ (with_frames (frames_of at r frame now.0.frames) now.0, now.1) → made.end.value.settings ≡ set → made.end.value.log ≡ past ++ added_by r →
+          HasSettled clock k event view view' device device' me now b r last between c
+      settled frame is book framed settings added =
+          record {
+            found = d;
+            same = book.0 ∙ m.there.1;
+            framed = framed ∙ (λ i. (with_frames (frames_of (m.there.1 i) r (is i) (kept_frames i)) now.0, now.1));
+            settings = ap (λ (x : EndBook). x.end.value.settings) book.1 ∙ settings;
+            added = ap (λ (x : EndBook). x.end.value.log) book.1 ∙ added;
+          }
 
     module _ {clock : ℕ} {view' : ViewLists} {device' : Device} {r : Answer} {last : ℕ} {between : M} {c : EndBook}
-      (h : HasSettled clock k event view view' device device' me now b r last between c)
+        (h : HasSettled clock k event view view' device device' me now b r last between c)
       where
         pub grown : Begins c.end.value.log (joined (known_at last between.0).seen)
         grown =
