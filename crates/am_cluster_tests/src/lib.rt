@@ -2,6 +2,8 @@
 #![tactic(auto)]
 
 #[cfg(test)]
+mod devices;
+#[cfg(test)]
 mod disks;
 #[cfg(test)]
 mod gates;
@@ -9,6 +11,8 @@ mod gates;
 mod halves;
 #[cfg(test)]
 mod library;
+#[cfg(test)]
+mod page_log;
 #[cfg(test)]
 mod parted;
 #[cfg(test)]

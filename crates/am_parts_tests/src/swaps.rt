@@ -5,6 +5,4 @@ mod devices;
 #[cfg(test)]
 mod images;
 #[cfg(test)]
-mod page_log;
-#[cfg(test)]
 mod tests;

@@ -1,6 +1,5 @@
 //! A disk whose listed calls fail.
 
-use crate::swaps::page_log::PageLog;
 use am_names::EndpointId;
 use am_swap_device::{Look, MemorySwap, Swap, SwapFault};
 use std::alloc::Global;
@@ -65,24 +64,5 @@ fn reads_and_writes_are_counted_together(rt: HostRuntime) -> Result<(), Fail> {
     assert!(rt; holds(&swap, SECOND, b"other"));
     assert!(rt; read_back(alloc, &mut swap, EndpointId(5)).is_none());
     assert!(rt; swap.faults() == 1);
-    Ok(())
-}
-
-#[test]
-fn a_log_of_pages_is_a_device_too(rt: HostRuntime) -> Result<(), Fail> {
-    let alloc = rt.alloc();
-    let mut log = PageLog::new(alloc, 3);
-    assert!(rt; log.look(FIRST).is_none());
-    assert!(rt; written(&mut log, FIRST, b"one") == Ok(()));
-    assert!(rt; written(&mut log, SECOND, b"other") == Ok(()));
-    assert!(rt; written(&mut log, FIRST, b"two") == Ok(()));
-    assert!(rt; written(&mut log, FIRST, b"three") == Err(SwapFault::Failed));
-    assert!(rt; holds(&log, FIRST, b"two"));
-    assert!(rt; holds(&log, SECOND, b"other"));
-    match read_back(alloc, &mut log, FIRST) {
-        Some(Ok(bytes)) => assert!(rt; bytes.as_slice() == b"two".as_slice()),
-        _ => assert!(rt; false),
-    }
-    assert!(rt; log.faults() == 1);
     Ok(())
 }
