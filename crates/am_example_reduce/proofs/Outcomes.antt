@@ -1,10 +1,13 @@
 -- What a round adds to what was summed, and what the nodes hear.
-use Rattle.std.proofs.Common.{◌≡◌, ◌≢◌, ℕ, ◌+◌, ◌%◌, ◌^◌, ◌<◌, Bool, true, false, ◌&&◌, ◌||◌, not, List, [], ◌∷◌, ◌++◌, Option, Some, None, refl, sym, ap, ◌∙◌, subst, arith}
-use Rattle.std.proofs.Common.{All, length, map, slice_get, get_or}
+use Rattle.std.proofs.Common.{eqb-true, ◌≡◌, ◌≢◌, ◌⊎◌, inl, inr, ⊎_elim, ℕ, ◌+◌, ◌%◌, ◌^◌, ◌<◌, Bool, true, false, ◌&&◌, ◌||◌, ◌==◌, not, List, [], ◌∷◌, ◌++◌, Option, Some, None, refl, sym, ap, ◌∙◌, subst, arith}
+use Rattle.std.proofs.Common.{All, append-nil, length, map, slice_get, get_or}
 use Rattle.std.specs.Prelude.{IfSome, filter, sum_by}
 use Rattle.std.specs.List.{Contains, list_all, list_any, range_with_len}
 use Rattle.std.specs.Option.{option_map}
 use Rattle.std.proofs.lemmas.Bool.{and_parts}
+use Rattle.std.proofs.lemmas.Grind.{flat_map-append}
+use Rattle.std.proofs.lemmas.List.{length_push}
+use Rattle.std.proofs.lemmas.List.Concat.{flat_map-cons}
 use Rattle.std.proofs.lemmas.List.Sums.{sum_by-append, sum_by_push}
 use Rattle.std.proofs.lemmas.Option.{get_or_from_slice_get, slice_get_within}
 use Rattle.am_lemmas.proofs.Numbered.{lines_all}
@@ -29,7 +32,7 @@ use Rattle.am_library.specs.Views.{is_to, requests_run, requests_sent, runs_at, 
 use Rattle.am_library.proofs.Weights.{sum_map}
 use Rattle.am_example_reduce.specs.declared.reduce.Summed.{Summed}
 use Rattle.am_example_reduce.specs.Rounds.{Asks, SendsSum, end_of, root, serves_root}
-use Rattle.am_example_reduce.specs.Sums.{AreNotes, IsOutcome, Run, Sums, SumsAllBut, heard_by, weight_at_root, weight_summed}
+use Rattle.am_example_reduce.specs.Sums.{AreNotes, IsAfter, IsOutcome, Leave, Run, Sums, SumsAllBut, heard_by, left_by, unknown_by, weight_at_root, weight_summed}
 use Rattle.am_example_reduce.proofs.Lists.{filter_all, filter_in, filter_none}
 
 -- ---- where only the root serves, all that ran, ran there
@@ -85,36 +88,55 @@ both n a b x y sum one other = omega arith
 one_more : (n a b x : ℕ) → n ≡ (a + b) % 2 ^ 64 → a ≡ x % 2 ^ 64 → n ≡ (x + b) % 2 ^ 64
 one_more n a b x sum one = omega arith
 
-pub round_more : (plan : List PlanLine) (numbers : List Words) (before now : Summed) (s : ScenarioLists) (journal : List Entry) → EachRequestHasItsEnd →
-    RunsWhereHandlersAre → SumsAreOfRuns → IsRun s journal → Asks plan before.left.items s → IsOutcome before journal now → Sums plan numbers before →
-    Sums plan numbers now
-round_more plan numbers before now s journal ends served sums is_run asks outcome so_far = record {
-  runs = so_far.runs ++ here ∷ [];
-  each = λ (weight : Words → ℕ). omega (
-    arith,
-    so_far.each weight,
-    ap (sum_by weight) asks.asked,
-    ends s journal is_run weight,
-    sum_map weight words_of (requests_run journal),
-    ap (sum_by (λ (m : Message). weight m.words)) there,
-    sum_by_push (λ (run : Run plan). weight_at_root weight run.journal) so_far.runs here,
-    ap (sum_by weight) outcome.left',
-    sum_by-append weight (words_refused journal) (words_fated is_back journal),
-    ap (sum_by weight) outcome.unknown',
-    sum_by-append weight (words_fated is_lost journal) before.unknown.items,
-  );
-  summed =
-      both now.sum before.sum (sum_at journal root) (weight_summed first_of so_far.runs) (weight_at_root first_of journal) outcome.sum' so_far.summed
-      (sums s journal root is_run asks.adds)
-      ∙ ap (λ (n : ℕ). n % 2 ^ 64) (sym (sum_by_push (λ (run : Run plan). weight_at_root first_of run.journal) so_far.runs here));
-  at_root =
-      one_more now.sum before.sum (sum_at journal root) (sum_by (λ (run : Run plan). sum_at run.journal root) so_far.runs) outcome.sum' so_far.at_root
-      ∙ ap (λ (n : ℕ). n % 2 ^ 64) (sym (sum_by_push (λ (run : Run plan). sum_at run.journal root) so_far.runs here));
-  known = λ (repeats : All (λ (line : PlanLine). line.fault ≡ Repeat) plan).
-      outcome.unknown'
-      ∙ (λ i. none_lost journal (λ (serial : Serial). (is_run.obeys.complete (subst (λ (lines : List PlanLine). All (λ (line : PlanLine). line.fault ≡ Repeat) lines)
-      (sym asks.plan') repeats) serial).0) i ++ so_far.known repeats i);
-}
+-- what is left after one round more
+leave_more : {plan : List PlanLine} (numbers : List Words) (runs : List (Run plan)) (run : Run plan) (left : List Words) → Leave numbers runs left →
+    words_asked run.scenario.script ≡ left → Leave numbers (runs ++ run ∷ []) (left_by run.journal)
+leave_more numbers [] run left is asked = (asked ∙ is, refl)
+leave_more numbers (r ∷ runs) run left is asked = (is.0, leave_more (left_by r.journal) runs run left is.1 asked)
+
+unknown_more : {plan : List PlanLine} (runs : List (Run plan)) (run : Run plan) →
+    unknown_by (runs ++ run ∷ []) ≡ unknown_by runs ++ words_fated is_lost run.journal
+unknown_more {plan} runs run =
+    flat_map-append (λ (r : Run plan). words_fated is_lost r.journal) runs (run ∷ [])
+    ∙ ap (λ (l : List Words). unknown_by runs ++ l)
+    (flat_map-cons (λ (r : Run plan). words_fated is_lost r.journal) run [] ∙ append-nil (words_fated is_lost run.journal))
+
+round_more : (plan : List PlanLine) (numbers : List Words) (before now : Summed) (s : ScenarioLists) (journal : List Entry) → EachRequestHasItsEnd →
+    RunsWhereHandlersAre → SumsAreOfRuns → IsRun s journal → Asks plan before.left.items s → IsOutcome before journal now →
+    (so_far : Sums plan numbers before) → (sums : Sums plan numbers now) × (length sums.runs ≡ length so_far.runs + 1)
+round_more plan numbers before now s journal ends served sums is_run asks outcome so_far = (
+  record {
+    runs = so_far.runs ++ here ∷ [];
+    left' = subst (λ (l : List Words). Leave numbers (so_far.runs ++ here ∷ []) l) (sym outcome.left')
+        (leave_more numbers so_far.runs here before.left.items so_far.left' asks.asked);
+    unknown' = outcome.unknown' ∙ ap (λ (l : List Words). l ++ words_fated is_lost journal) so_far.unknown' ∙ sym (unknown_more so_far.runs here);
+    each = λ (weight : Words → ℕ). omega (
+      arith,
+      so_far.each weight,
+      ap (sum_by weight) asks.asked,
+      ends s journal is_run weight,
+      sum_map weight words_of (requests_run journal),
+      ap (sum_by (λ (m : Message). weight m.words)) there,
+      sum_by_push (λ (run : Run plan). weight_at_root weight run.journal) so_far.runs here,
+      ap (sum_by weight) outcome.left',
+      sum_by-append weight (words_refused journal) (words_fated is_back journal),
+      ap (sum_by weight) outcome.unknown',
+      sum_by-append weight before.unknown.items (words_fated is_lost journal),
+    );
+    summed =
+        both now.sum before.sum (sum_at journal root) (weight_summed first_of so_far.runs) (weight_at_root first_of journal) outcome.sum' so_far.summed
+        (sums s journal root is_run asks.adds)
+        ∙ ap (λ (n : ℕ). n % 2 ^ 64) (sym (sum_by_push (λ (run : Run plan). weight_at_root first_of run.journal) so_far.runs here));
+    at_root =
+        one_more now.sum before.sum (sum_at journal root) (sum_by (λ (run : Run plan). sum_at run.journal root) so_far.runs) outcome.sum' so_far.at_root
+        ∙ ap (λ (n : ℕ). n % 2 ^ 64) (sym (sum_by_push (λ (run : Run plan). sum_at run.journal root) so_far.runs here));
+    known = λ (repeats : All (λ (line : PlanLine). line.fault ≡ Repeat) plan).
+        outcome.unknown'
+        ∙ (λ i. so_far.known repeats i ++ none_lost journal (λ (serial : Serial). (is_run.obeys.complete (subst (λ (lines : List PlanLine). All (λ (line : PlanLine). line.fault ≡ Repeat) lines)
+        (sym asks.plan') repeats) serial).0) i);
+  },
+  length_push so_far.runs here,
+)
   where
     here : Run plan
     here = record { scenario = s; journal = journal; planned = asks.plan'; is_run = is_run }
@@ -122,14 +144,53 @@ round_more plan numbers before now s journal ends served sums is_run asks outcom
     there : runs_at journal root ≡ requests_run journal
     there = all_at_root s journal is_run served asks.alone
 
-pub round_none : (plan : List PlanLine) (numbers left unknown : List Words) → left ≡ numbers → unknown ≡ [] → SumsAllBut plan numbers 0 left unknown
-round_none plan numbers left unknown all none = record {
-  runs = [];
-  each = λ (weight : Words → ℕ). omega (arith, ap (sum_by weight) all, ap (sum_by weight) none);
-  summed = refl;
-  at_root = refl;
-  known = λ (repeats : All (λ (line : PlanLine). line.fault ≡ Repeat) plan). none;
-}
+pub after_more : (plan : List PlanLine) (numbers : List Words) (rounds : ℕ) (before now : Summed) (s : ScenarioLists) (journal : List Entry) →
+    EachRequestHasItsEnd → RunsWhereHandlersAre → SumsAreOfRuns → IsRun s journal → Asks plan before.left.items s → IsOutcome before journal now →
+    before.left.items ≢ [] → IsAfter plan numbers rounds before → IsAfter plan numbers (rounds + 1) now
+after_more plan numbers rounds before now s journal ends served sums is_run asks outcome some so_far =
+    let next = round_more plan numbers before now s journal ends served sums is_run asks outcome so_far.0 in
+    let many : length so_far.0.runs ≡ rounds =
+    ⊎_elim (λ (is : length so_far.0.runs ≡ rounds). is) (λ (none : before.left.items ≡ []). absurd (some none)) so_far.1 in
+    (next.0, inl (next.1 ∙ ap (λ (n : ℕ). n + 1) many))
+
+-- nothing is left, so no round is made
+pub after_none : (plan : List PlanLine) (numbers : List Words) (rounds : ℕ) (summed : Summed) → summed.left.items ≡ [] → IsAfter plan numbers rounds summed →
+    IsAfter plan numbers (rounds + 1) summed
+after_none plan numbers rounds summed none so_far = (so_far.0, inr none)
+
+pub round_none : (plan : List PlanLine) (numbers : List Words) (summed : Summed) → summed.sum ≡ 0 → summed.left.items ≡ numbers →
+    summed.unknown.items ≡ [] → IsAfter plan numbers 0 summed
+round_none plan numbers summed nought all none = (
+  record {
+    runs = [];
+    left' = all;
+    unknown' = none;
+    each = λ (weight : Words → ℕ). omega (arith, ap (sum_by weight) all, ap (sum_by weight) none);
+    summed = nought;
+    at_root = nought;
+    known = λ (repeats : All (λ (line : PlanLine). line.fault ≡ Repeat) plan). none;
+  },
+  inl refl,
+)
+
+-- ---- what is not empty
+
+false_is_true : false ≡ true → ⊥
+false_is_true is = absurd (cc)
+
+pub left_some : (b : Bool) (n : ℕ) (items : List Words) → b ≡ (n == 0) → length items ≡ n → b ≡ false → items ≢ []
+left_some true n items is many test none = absurd (cc)
+left_some false n items is many test none =
+    false_is_true (is ∙ ap (λ (m : ℕ). m == 0) (sym many ∙ ap (λ (l : List Words). length l) none))
+
+pub left_none : (b : Bool) (n : ℕ) (items : List Words) → b ≡ (n == 0) → length items ≡ n → b ≡ true → items ≡ []
+left_none true n [] is many test = refl
+left_none true n (x ∷ items) is many test = absurd (let zero : n ≡ 0 = eqb-true n 0 (sym is) in omega (arith, many, zero))
+left_none false n items is many test = absurd (cc)
+
+pub some_length : (items : List Words) → items ≢ [] → 0 < length items
+some_length [] some = absurd (some refl)
+some_length (x ∷ items) some = omega arith
 
 pub is_whole : (plan : List PlanLine) (numbers : List Words) (summed : Summed) → Sums plan numbers summed → summed.left.items ≡ [] →
     summed.unknown.items ≡ [] → (summed.sum ≡ sum_by first_of numbers % 2 ^ 64) × SumsAllBut plan numbers summed.sum [] []

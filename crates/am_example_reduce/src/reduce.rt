@@ -1,12 +1,12 @@
 //! Sums over nodes, in rounds: what was refused or came back never ran, and is sent again.
 
-ghost use Rattle.std.specs.Prelude.{◌≡◌, IfOk, List, map, slice_get};
+ghost use Rattle.std.specs.Prelude.{◌≡◌, ◌≢◌, ℕ, ◌+◌, [], IfOk, List, map, slice_get};
 ghost use Rattle.std.specs.List.{range_with_len};
 ghost use Rattle.std.specs.Option.{option_map};
 ghost use Rattle.std.specs.Thread.{IsSync};
 ghost use Rattle.am_names.specs.declared.Words.{Words};
 ghost use Rattle.am_library.specs.Laws.{first_word};
-ghost use Rattle.am_example_reduce.specs.Sums.{AreNotes, IsOutcome, IsReduced, Sums, heard_by};
+ghost use Rattle.am_example_reduce.specs.Sums.{AreNotes, IsAfter, IsOutcome, IsReduced, heard_by};
 
 use crate::rounds::{ROOT, ask, tell};
 use am_library::{Account, Ending, RoundFault, Runner, laws, runs_at, sum_at};
@@ -42,8 +42,8 @@ fn after(alloc: Global, before: &Summed, journal: &LoggedJournal) -> Result<Summ
     let account = Account::of(alloc, journal)?;
     let mut left = account.words_ended(alloc, journal, Ending::Refused)?;
     left.extend_from_slice(&account.words_ended(alloc, journal, Ending::Returned)?)?;
-    let mut unknown = account.words_ended(alloc, journal, Ending::Unknown)?;
-    unknown.extend_from_slice(&before.unknown)?;
+    let mut unknown = Vec::from_slice(alloc, &before.unknown)?;
+    unknown.extend_from_slice(&account.words_ended(alloc, journal, Ending::Unknown)?)?;
     let sum = before.sum.wrapping_add(sum_at(journal, ROOT));
     Ok(Summed { sum, left, unknown })
 }
@@ -58,7 +58,7 @@ fn send_left<R: Runner, T: Threads + Sync>(
     before: &Summed,
 ) -> Result<Summed, RoundFault>
     requires shared { IsSync T.row }
-    ensures { (numbers : List Words) → Sums plan.now numbers before.now → IfOk result (Sums plan.now numbers) }
+    ensures { (numbers : List Words) (rounds : ℕ) → IsAfter plan.now numbers rounds before.now → before.now.left.items ≢ [] → IfOk result (IsAfter plan.now numbers (rounds + 1)) }
 {
     laws::each_request_has_its_end();
     laws::runs_where_handlers_are();
