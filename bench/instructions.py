@@ -14,8 +14,10 @@ import tempfile
 
 INPUTS = os.path.join(os.path.dirname(os.path.abspath(__file__)), "inputs.py")
 
-# The first cache for data and the last one that cachegrind plays: bytes, how many lines to a set, bytes of a line.
-CACHES = ("--D1=32768,8,64", "--LL=8388608,16,64")
+# The caches that cachegrind plays, the first for data and the last: bytes, how many lines to a set, bytes of a line.
+FIRST_CACHE, LAST_CACHE = "32768,8,64", "8388608,16,64"
+# The level of the first cache, by which cachegrind names it behind a D for data.
+LEVEL = 1
 
 # what, the program's words, the input, and of plain Rust: page faults, millions of misses and of instructions, megabytes; None where it wasn't measured
 ROWS = (
@@ -34,9 +36,10 @@ ROWS = (
 def counted(command, path):
     """Millions of misses of the first cache, and of instructions."""
     with open(path, "rb") as given:
-        words = ["valgrind", "--tool=cachegrind", "--cache-sim=yes", *CACHES, "--cachegrind-out-file=/dev/null", *command]
+        caches = [f"--D{LEVEL}={FIRST_CACHE}", f"--LL={LAST_CACHE}"]
+        words = ["valgrind", "--tool=cachegrind", "--cache-sim=yes", *caches, "--cachegrind-out-file=/dev/null", *command]
         found = subprocess.run(words, stdin=given, capture_output=True, check=False).stderr.decode()
-    numbers = (re.search(rf"{word}:? +([\d,]+)", found)[1] for word in ("D1  misses", "I +refs"))
+    numbers = (re.search(rf"{word}:? +([\d,]+)", found)[1] for word in (f"D{LEVEL} +misses", "I +refs"))
     return [int(it.replace(",", "")) / 1_000_000 for it in numbers]
 
 
