@@ -1,9 +1,6 @@
-//! A disk of another make than the cluster's own, by itself and in a turn of a driver.
+//! A disk of another make than the cluster's own, in a turn of a driver.
 
 ghost use Rattle.am_cluster_opening.specs.Crews.{IsCrew};
-ghost use Rattle.am_names.specs.declared.NodeId.{NodeId as Node};
-ghost use Rattle.am_scenario_types.specs.Lawful.{IsLawful};
-ghost use Rattle.am_scenario_types.specs.declared.parts.Network.TheVariants.{Packet};
 ghost use Rattle.std.specs.Prelude.{◌≡◌, ◌∷◌, [], IfSome};
 
 use crate::page_log::PageLog;
@@ -12,7 +9,7 @@ use am_driver::{DriverTurn, EndView, View, driver_turn};
 use am_names::{EndpointId, NodeId};
 use am_office_entries::{Entry, Event, Outcome};
 use am_scenario::{Form, Scenario, read};
-use am_swap_device::{Look, Swap, SwapFault};
+use am_swap_device::{Look, Swap};
 use std::alloc::Global;
 use std::test::Fail;
 
@@ -20,22 +17,6 @@ use std::test::Fail;
 const CROWDED: &str = "am2 1\nnetwork packet\nnodes 1\nkeep 0\nturns 1\nendpoint 0 0 5\n";
 
 const FIRST: EndpointId = EndpointId(0);
-
-const SECOND: EndpointId = EndpointId(4);
-
-#[test]
-fn a_log_of_pages_is_a_device(rt: HostRuntime) -> Result<(), Fail> {
-    let mut log = PageLog::new(rt.alloc(), 3);
-    assert!(rt; log.look(FIRST).is_none());
-    assert!(rt; log.write(FIRST, b"one") == Ok(()));
-    assert!(rt; log.write(SECOND, b"other") == Ok(()));
-    assert!(rt; log.write(FIRST, b"two") == Ok(()));
-    assert!(rt; log.write(FIRST, b"three") == Err(SwapFault::Failed));
-    assert!(rt; log.look(FIRST) == Some(b"two".as_slice()));
-    assert!(rt; log.look(SECOND) == Some(b"other".as_slice()));
-    assert!(rt; log.faults() == 1);
-    Ok(())
-}
 
 /// The line of a view that has but one.
 fn only_line(view: &View) -> Option<EndView>

@@ -28,12 +28,6 @@ pub fn joined(alloc: Global, front: &str, rest: &str) -> Result<Vec<u8>, AllocEr
     Ok(text)
 }
 
-/// Whether the words of a line, of which the first is the program's name, ask for something.
-pub fn asks(alloc: Global, line: &str) -> Result<bool, AllocError> {
-    let words = words_of(alloc, line)?;
-    Ok(read_words(alloc, &words).is_ok())
-}
-
 // Of the words of a line, which ask for this, those that a line of a report is to begin with.
 fn given_by(alloc: Global, asked: Asked, words: &[String]) -> Result<String, AllocError> {
     let rest = match words {

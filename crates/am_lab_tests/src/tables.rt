@@ -289,19 +289,6 @@ pub const TOLD: [(&str, &str, &str, u8, &str); 25] = [
     ),
 ];
 
-/// What a made scenario begins with.
-pub const MADE: &str = "am2 1\n\
-    network packet\n\
-    nodes 4\n\
-    frames 2\n\
-    channels 2\n\
-    tries 4\n\
-    bounces 3\n\
-    keep 2\n\
-    log 65536\n\
-    turns 0\n\
-    endpoint 0 0 100\n";
-
 /// Words that ask for nothing.
 pub const NO_WORDS: [&str; 28] = [
     "am2_lab",

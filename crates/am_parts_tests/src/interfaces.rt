@@ -1,8 +1,4 @@
-//! Tests of interfaces: worked journals of two nodes, as calls on their interfaces and endpoints.
+//! Tests of interfaces.
 
 #[cfg(test)]
-mod nodes;
-#[cfg(test)]
-mod pairs;
-#[cfg(test)]
-mod tests;
+mod slots;

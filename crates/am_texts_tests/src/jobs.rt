@@ -1,4 +1,4 @@
-//! Tests of counting words: the words of texts, the rounds that send them, and what is counted.
+//! Tests of counting words.
 
 #[cfg(test)]
 mod tests;

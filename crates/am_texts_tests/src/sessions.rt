@@ -1,4 +1,4 @@
-//! Tests of sessions: their events by hand, their texts with what is printed, and the faults of texts.
+//! Tests of sessions: texts with what is printed, and the faults of texts.
 
 #[cfg(test)]
 mod tables;

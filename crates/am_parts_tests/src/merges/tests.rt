@@ -1,7 +1,7 @@
 //! Logs with entries of one stamp.
 
 use am_machine_journal::merge::join;
-use am_names::{EndpointId, Message, MsgKind, NodeId, Serial, Tag, Words};
+use am_names::{EndpointId, NodeId, Serial};
 use am_office_entries::{Actor, Call, Entry, Event, Outcome, Received};
 use std::test::Fail;
 
@@ -99,62 +99,5 @@ fn two_nodes_with_one_stamp(rt: HostRuntime) -> Result<(), Fail> {
         WANT_OF_200,
     ];
     assert!(rt; journal.copied(rt.alloc())?.entries.as_slice() == expected.as_slice());
-    Ok(())
-}
-
-// A carry from endpoint 5 to endpoint 1.
-const CARRY: Entry = Entry {
-    stamp: 2,
-    event: Event::Carry { end: EndpointId(5) },
-    outcome: Outcome::Accepted(Message {
-        serial: Serial {
-            source: EndpointId(5),
-            count: 1,
-        },
-        kind: MsgKind::Request,
-        dest: EndpointId(1),
-        tag: Tag(7),
-        reply_tag: Tag(5),
-        handler: 1,
-        words: Words {
-            a: 1,
-            b: 2,
-            c: 3,
-            d: 4,
-        },
-        about: None,
-    }),
-};
-
-const POLL_OF_4: Entry = Entry {
-    stamp: 2,
-    event: Event::Call {
-        actor: Actor::Outside,
-        end: EndpointId(4),
-        call: Call::Poll,
-    },
-    outcome: Outcome::Empty,
-};
-
-/// A carry stands in the logs of two endpoints, and comes once, in the place of its source.
-#[test]
-fn a_carry_once(rt: HostRuntime) -> Result<(), Fail> {
-    let at_1 = [CARRY];
-    let at_4 = [POLL_OF_4];
-    let at_5 = [CARRY];
-    let logs: [&[Entry]; 3] = [&at_1, &at_4, &at_5];
-    let journal = join(rt.alloc(), &logs)?;
-    assert!(rt; journal.copied(rt.alloc())?.entries.as_slice() == [POLL_OF_4, CARRY].as_slice());
-    Ok(())
-}
-
-/// No logs, and logs without entries, make an empty journal.
-#[test]
-fn no_entries(rt: HostRuntime) -> Result<(), Fail> {
-    let none: [Entry; 0] = [];
-    let no_logs: [&[Entry]; 0] = [];
-    let empty_logs: [&[Entry]; 2] = [&none, &none];
-    assert!(rt; join(rt.alloc(), &no_logs)?.entries().is_empty());
-    assert!(rt; join(rt.alloc(), &empty_logs)?.entries().is_empty());
     Ok(())
 }

@@ -1,7 +1,7 @@
 //! The images of a fresh body and of one with an index and a request, by hand.
 
 use am_endpoint_body::EndSettings;
-use am_model::{Awaited, Mapping, Queued};
+use am_model::{Awaited, Queued};
 use am_names::{EndpointId, Message, MsgKind, NodeId, Serial, Tag, Words};
 use am_office_entries::Place;
 
@@ -31,12 +31,6 @@ pub const SETTINGS: EndSettings = EndSettings {
     log: 5,
     bounces: 3,
     pool: None,
-};
-
-pub const MAPPING: Mapping = Mapping {
-    name: EndpointId(1),
-    tag: Tag(7),
-    credits: 1,
 };
 
 const FIRST: Serial = Serial {

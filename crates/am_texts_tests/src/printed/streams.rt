@@ -45,20 +45,6 @@ fn reads_and_writes_by_parts(rt: HostRuntime) -> Result<(), Fail> {
     Ok(())
 }
 
-/// As many bytes as are taken, and one more.
-#[test]
-fn takes_so_many_bytes_and_no_more(rt: HostRuntime) -> Result<(), Fail> {
-    for (length, fits) in [(16_777_216, true), (16_777_217, false)] {
-        let bytes = vec![in rt.alloc(); b' '; length]?;
-        let mut source = StdSource::new(bytes.as_slice());
-        match take_all(rt.alloc(), &mut source) {
-            Ok(taken) => assert!(rt; fits && taken.len() == length),
-            Err(fault) => assert!(rt; !fits && fault == TakeFault::TooLong),
-        }
-    }
-    Ok(())
-}
-
 #[test]
 fn reads_from_a_slice_and_writes_into_a_vector(rt: HostRuntime) -> Result<(), Fail> {
     let mut source = StdSource::new(TEXT);

@@ -5,9 +5,10 @@ use crate::printed::events::OTHERS;
 use crate::printed::journals::{FATES, REPORTS};
 use am_names::{EndpointId, NodeId, Serial};
 use am_office_entries::logged::LoggedJournal;
-use am_office_entries::{Entry, Event, Journal, fate};
+use am_office_entries::{Entry, Event, Journal, NoMemory, Outcome, fate};
 use am_office_report::report;
 use am_office_text::entry_lines::entry_line;
+use std::alloc::Global;
 use std::test::Fail;
 
 #[test]
@@ -41,41 +42,40 @@ fn each_message_has_its_fate(rt: HostRuntime) -> Result<(), Fail> {
     Ok(())
 }
 
+/// Whether this is the line of an entry.
+fn is_printed(
+    alloc: Global,
+    event: Event,
+    outcome: Outcome,
+    wanted: &str,
+) -> Result<bool, NoMemory> {
+    let entry = Entry {
+        stamp: 1,
+        event,
+        outcome,
+    };
+    let mut line = Vec::new(alloc);
+    entry_line(&entry, &mut line)?;
+    Ok(line.as_slice() == wanted.as_bytes())
+}
+
 #[test]
 fn calls_are_printed(rt: HostRuntime) -> Result<(), Fail> {
-    for (actor, end, call, outcome, wanted) in CALLS {
+    for (actor, end, call, outcome, wanted) in CALLS.iter() {
         let event = Event::Call {
-            actor,
-            end: EndpointId(end),
-            call,
+            actor: *actor,
+            end: EndpointId(*end),
+            call: *call,
         };
-        let mut line = Vec::new(rt.alloc());
-        entry_line(
-            &Entry {
-                stamp: 1,
-                event,
-                outcome,
-            },
-            &mut line,
-        )?;
-        assert!(rt; line.as_slice() == wanted.as_bytes());
+        assert!(rt; is_printed(rt.alloc(), event, *outcome, wanted)?);
     }
     Ok(())
 }
 
 #[test]
 fn other_events_are_printed(rt: HostRuntime) -> Result<(), Fail> {
-    for (event, outcome, wanted) in OTHERS {
-        let mut line = Vec::new(rt.alloc());
-        entry_line(
-            &Entry {
-                stamp: 1,
-                event,
-                outcome,
-            },
-            &mut line,
-        )?;
-        assert!(rt; line.as_slice() == wanted.as_bytes());
+    for (event, outcome, wanted) in OTHERS.iter() {
+        assert!(rt; is_printed(rt.alloc(), *event, *outcome, wanted)?);
     }
     Ok(())
 }

@@ -6,12 +6,8 @@ use crate::scenarios::single_lines::{
 };
 use crate::scenarios::tables::{DECLARATIONS, EVENTS, FIRST_LINES, SETTINGS};
 use am_lexer::What;
-use am_names::{AnswerPacket, EndpointId, NodeId, Packet, Tag, Verdict};
-use am_office_entries::{Call, Mask};
-use am_scenario::{
-    Bundle, EndLine, FaultLine, Form, LinkFault, Network, PlanLine, ReadFault, Readiness, Scenario,
-    ScriptCall, ThreadLine, generate, read, shape,
-};
+use am_names::{AnswerPacket, NodeId, Packet, Verdict};
+use am_scenario::{Form, LinkFault, PlanLine, ReadFault, Scenario, generate, read, shape};
 use std::alloc::Global;
 use std::fmt::Write;
 use std::test::Fail;
@@ -136,144 +132,6 @@ fn one_line_too_many(rt: HostRuntime) -> Result<(), Fail> {
         let over = numbered(alloc, head, before, after, most + 2)?;
         let fault = fault_of(alloc, form, over.as_str());
         assert!(rt; fault == Some((line, What::TooMany)), "{before}");
-    }
-    Ok(())
-}
-
-const VERSION_2: &str = "am2 2\n\
-    network packet\n\
-    nodes 2\n\
-    tries 5\n\
-    pool 3\n\
-    endpoint 7 1 all disk\n\
-    endpoint 2 0 none\n\
-    bundle 1 notempty 2\n\
-    thread 9 1\n\
-    thread 3 0\n\
-    plan 0 1 4 late 2\n\
-    swapfault 1 6\n\
-    t3 pollb 1\n\
-    t3 eventb 1\n\
-    t9 map 7 0 2 5 0\n";
-
-// Whether the settings are those of `VERSION_2`.
-fn has_settings(run: &Scenario) -> bool {
-    run.network == Network::Packet
-        && (run.nodes, run.frames, run.channels, run.tries) == (2, 16, 1, 5)
-        && (run.bounces, run.pool, run.keep) == (4, Some(3), 64)
-        && (run.log, run.turns) == (65_536, 0)
-}
-
-#[test]
-fn settings_of_version_2(rt: HostRuntime) {
-    let Some(run) = spelled(rt.alloc(), Form::Run, VERSION_2) else {
-        assert!(rt; false, "refused");
-        return;
-    };
-    assert!(rt; has_settings(&run));
-}
-
-fn end_line(id: u8, node: u8, tag: u64, disk: bool) -> EndLine {
-    EndLine {
-        id: EndpointId(id),
-        node: NodeId(node),
-        tag: Tag(tag),
-        disk,
-    }
-}
-
-fn thread_line(id: u8, node: u8) -> ThreadLine {
-    let node = NodeId(node);
-    ThreadLine { id, node }
-}
-
-// Whether what is declared is what `VERSION_2` declares, in ascending order.
-fn has_declarations(run: &Scenario) -> bool {
-    let ends = [end_line(2, 0, 0, false), end_line(7, 1, u64::MAX, true)];
-    let threads = [thread_line(3, 0), thread_line(9, 1)];
-    run.ends.as_slice() == ends.as_slice() && run.threads.as_slice() == threads.as_slice()
-}
-
-// Whether the plan and the failing page call are those of `VERSION_2`.
-fn has_plans(run: &Scenario) -> bool {
-    let plan = [plan_line(4, LinkFault::Late(2))];
-    let (node, number) = (NodeId(1), 6);
-    let faults = [FaultLine { node, number }];
-    run.plan.as_slice() == plan.as_slice() && run.faults.as_slice() == faults.as_slice()
-}
-
-#[test]
-fn declarations_of_version_2(rt: HostRuntime) {
-    let Some(run) = spelled(rt.alloc(), Form::Run, VERSION_2) else {
-        assert!(rt; false, "refused");
-        return;
-    };
-    assert!(rt; has_declarations(&run));
-    assert!(rt; has_plans(&run));
-}
-
-fn made(thread: u8, endpoint: u8, call: Call) -> ScriptCall {
-    ScriptCall {
-        thread,
-        endpoint: EndpointId(endpoint),
-        call,
-    }
-}
-
-// Whether the calls are those of `VERSION_2`, a bundle's lines among them, and no steps.
-fn has_calls(run: &Scenario) -> bool {
-    let map = Call::Map {
-        index: 0,
-        name: EndpointId(2),
-        tag: Tag(5),
-        credits: 0,
-    };
-    let script = [
-        made(3, 2, Call::Poll),
-        made(3, 2, Call::Test(Mask::NotEmpty)),
-        made(9, 7, map),
-    ];
-    run.script.as_slice() == script.as_slice() && run.steps.is_empty()
-}
-
-#[test]
-fn calls_of_version_2(rt: HostRuntime) {
-    let Some(run) = spelled(rt.alloc(), Form::Run, VERSION_2) else {
-        assert!(rt; false, "refused");
-        return;
-    };
-    assert!(rt; has_calls(&run));
-}
-
-// Whether one call is made, on endpoint 2.
-fn is_alone(calls: &[(EndpointId, Call)], call: Call) -> bool {
-    match calls {
-        [made] => made.0.0 == 2 && made.1 == call,
-        _ => false,
-    }
-}
-
-// Whether the bundle's endpoint is polled, tested and found ready.
-fn is_ready(alloc: Global, bundle: &Bundle) -> Result<bool, Fail> {
-    let polls = bundle.poll_calls(alloc)?;
-    let tests = bundle.test_calls(alloc)?;
-    Ok(
-        is_alone(&polls, Call::Poll)
-            && is_alone(&tests, Call::Test(Mask::NotEmpty))
-            && bundle.ready(&[EndpointId(7), EndpointId(2)]) == Readiness::Ready(EndpointId(2))
-            && bundle.ready(&[EndpointId(7)]) == Readiness::NotYet,
-    )
-}
-
-#[test]
-fn a_ready_bundle(rt: HostRuntime) -> Result<(), Fail> {
-    let Some(run) = spelled(rt.alloc(), Form::Run, VERSION_2) else {
-        assert!(rt; false, "refused");
-        return Ok(());
-    };
-    assert!(rt; run.bundles.len() == 1);
-    for bundle in run.bundles.iter() {
-        assert!(rt; is_ready(rt.alloc(), bundle)?);
     }
     Ok(())
 }

@@ -3,7 +3,7 @@ use Rattle.std.proofs.Common.{◌≡◌, ◌<◌, ℕ, Some, vec_len}
 use Rattle.std.specs.List.{All}
 use Rattle.am_names.specs.declared.NodeId.{NodeId}
 use Rattle.am_model.specs.Endpoint.{entry_at}
-use Rattle.am_parts_tests.proofs.interfaces.nodes.homes.Given as goal
+use Rattle.am_parts_tests.proofs.interfaces.slots.homes.Given as goal
 
 abbrev pub invariant-loop-id : goal.invariant-loop-id
 invariant-loop-id l =
