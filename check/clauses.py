@@ -40,8 +40,8 @@ def clauses_of(text, at):
 
 
 def lines_of(path):
-    text = re.sub(r"//[^\n]*", "", path.read_text(encoding="utf-8"))
-    text = re.sub(r'b?"(?:\\.|[^"\\])*"|b?\'(?:\\.|[^\'\\])\'', '""', text, flags=re.S)
+    pieces = r'//[^\n]*|b?"(?:\\.|[^"\\])*"|b?\'(?:\\.|[^\'\\])\''
+    text = re.sub(pieces, lambda it: "" if it[0].startswith("//") else '""', path.read_text(encoding="utf-8"), flags=re.S)
     crate, module = path.parts[1], "::".join(path.with_suffix("").parts[3:])
     blocks = [(it.start(), end_of_group(text, it.end() - 1), it) for it in BLOCK.finditer(text)]
     for head in HEAD.finditer(text):

@@ -1,4 +1,5 @@
 pub mod Endings
+pub mod Again
 pub mod Lines
 pub mod Titled
 pub mod Quiet

@@ -35,6 +35,7 @@ use Rattle.am_office_entries.specs.declared.Entry.{Entry}
 use Rattle.am_office_text.specs.Words.{Word, spaced, serial, tag, cause, verdict, why}
 use Rattle.am_office_text.specs.EntryLines.Lines.{actor, interface, driver, who, handler_kind, mask, call, what, refusal, handler, sends, received, outcome, after_arrow}
 use Rattle.am_check_lines.specs.Grammar.{printed}
+use Rattle.am_lab_chart.specs.Captions.{joined as joined_words}
 use Rattle.am_lab_xml.specs.Escaped.{is_allowed, is_text}
 use Rattle.am_lab_xml.proofs.Bools.{all_of_both, first, second, joined}
 
@@ -54,19 +55,19 @@ digits_are_text (suc k) n behind h =
     let more : is_text (digit ∷ behind) ≡ true = joined (is_allowed digit) (is_text behind) (glyph_is_allowed (n % 10) (omega arith)) h in
     either (n / 10 == 0) (digit ∷ behind) (digits_onto k 10 false (n / 10) (digit ∷ behind)) more (digits_are_text k (n / 10) (digit ∷ behind) more)
 
-number_is_text : (n : ℕ) → is_text (decimal n) ≡ true
+pub number_is_text : (n : ℕ) → is_text (decimal n) ≡ true
 unfolding digits
 number_is_text n = digits_are_text 64 n [] refl
 
 -- ---- words
 
-serial_is_text : (s : Serial) → is_text (serial s) ≡ true
+pub serial_is_text : (s : Serial) → is_text (serial s) ≡ true
 unfolding serial
 serial_is_text s =
     all_of_both is_allowed (decimal s.source.0 ++ codes ".") (decimal s.count) (all_of_both is_allowed (decimal s.source.0) (codes ".")
     (number_is_text s.source.0) refl) (number_is_text s.count)
 
-tag_is_text : (t : Tag) → is_text (tag t) ≡ true
+pub tag_is_text : (t : Tag) → is_text (tag t) ≡ true
 unfolding tag
 tag_is_text t = either (t.0 == 0) (codes "none") _ refl (either (t.0 == 18446744073709551615) (codes "all") (decimal t.0) refl (number_is_text t.0))
 
@@ -128,19 +129,27 @@ who_is_text (Events.PageIn n e) = driver_is_text n
 
 -- ---- lists of words
 
-AreTexts : List Word → Type 0
+pub AreTexts : List Word → Type 0
 AreTexts words = list_all is_text words ≡ true
 
-none : AreTexts []
+pub none : AreTexts []
 unfolding AreTexts
 none = refl
 
-more : (word : Word) (words : List Word) → is_text word ≡ true → AreTexts words → AreTexts (word ∷ words)
+pub more : (word : Word) (words : List Word) → is_text word ≡ true → AreTexts words → AreTexts (word ∷ words)
 unfolding AreTexts
 more word words h k = joined (is_text word) (list_all is_text words) h k
 
-a_number : (n : ℕ) (words : List Word) → AreTexts words → AreTexts (decimal n ∷ words)
+pub a_number : (n : ℕ) (words : List Word) → AreTexts words → AreTexts (decimal n ∷ words)
 a_number n words h = more (decimal n) words (number_is_text n) h
+
+-- words that are texts, one behind the other, are a text
+pub joined_is_text : (words : List Word) → AreTexts words → is_text (joined_words words) ≡ true
+unfolding AreTexts
+joined_is_text [] h = refl
+joined_is_text (word ∷ words) h =
+    all_of_both is_allowed word (joined_words words) (first (is_text word) (list_all is_text words) h)
+    (joined_is_text words (second (is_text word) (list_all is_text words) h))
 
 kind_is_text : (k : HandlerKind) → AreTexts (handler_kind k)
 unfolding handler_kind

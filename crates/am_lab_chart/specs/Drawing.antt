@@ -6,13 +6,13 @@ use Rattle.am_lab_xml.specs.Trees.{Content, Named, each, numbered, printed}
 use Rattle.am_lab_xml.specs.Trees.{Content as Contents}
 use Rattle.am_lab_chart.specs.declared.tables.TheConstants.{STYLE}
 use Rattle.am_lab_chart.specs.Tables.{bar_meanings, call_meanings, call_shapes, ending_shapes, event_meanings, event_shapes, fate_meanings, fate_shapes, heads}
-use Rattle.am_lab_chart.specs.Tables.{legend_shapes, told_meanings, way_meanings}
+use Rattle.am_lab_chart.specs.Tables.{legend_shapes, way_meanings}
 use Rattle.am_lab_picture.specs.Layout.Layout.{has_text, height, left_edge, width}
-use Rattle.am_lab_chart.specs.Captions.{number, word}
-use Rattle.am_lab_chart.specs.Legends.{arrow_head, meaning, shape, style}
+use Rattle.am_lab_chart.specs.Captions.{holding, joined, number, word}
+use Rattle.am_lab_chart.specs.Legends.{arrow_head, meanings, shape, style}
 use Rattle.am_lab_chart.specs.Lanes.{end_head, nodes}
 use Rattle.am_lab_chart.specs.Bars.{lane_bars}
-use Rattle.am_lab_chart.specs.Ways.{drawn_arrow, drawn_cross, path}
+use Rattle.am_lab_chart.specs.Ways.{drawn_arrow, drawn_cross}
 use Rattle.am_lab_chart.specs.Rows.{row_of}
 
 -- signs are small, and lines thin, where rows have no text
@@ -22,8 +22,8 @@ scale p = if has_text p then codes "scale(1)" else codes "scale(.4)"
 unfoldable pub size_class : PictureLists → List ℕ
 size_class p = if has_text p then codes "large" else codes "small"
 
-unfoldable pub description : List ℕ → Content
-description summary = Contents.Element (codes "desc") [] (Contents.Text summary)
+abbrev pub description : List ℕ → Content
+description summary = holding (codes "desc") [] summary
 
 -- the shapes of all signs
 unfoldable pub shapes : List ℕ → Content
@@ -43,17 +43,21 @@ page wide high =
 unfoldable pub front : PictureLists → Content
 front p = Contents.Both (description p.summary) (Contents.Both (style STYLE.now) (definitions p))
 
-unfoldable pub legend : Content
-legend =
-    Contents.Both (each meaning fate_meanings)
-    (Contents.Both (each meaning bar_meanings)
-    (Contents.Both (each meaning way_meanings)
-    (Contents.Both (each meaning told_meanings) (Contents.Both (each meaning call_meanings) (each meaning event_meanings)))))
+abbrev pub totals : List ℕ → Content
+totals summary = holding (codes "text") (number (codes "x") 20 ∷ number (codes "y") 134 ∷ word (codes "class") (codes "plain") ∷ []) summary
+
+-- five lines, of what occurs in the picture, and below them the summary
+unfoldable pub legend : PictureLists → Content
+legend p =
+    Contents.Both (meanings p 20 18 fate_meanings)
+    (Contents.Both (meanings p 20 42 bar_meanings)
+    (Contents.Both (meanings p 20 66 call_meanings)
+    (Contents.Both (meanings p 20 90 event_meanings) (Contents.Both (meanings p 20 114 way_meanings) (totals p.summary)))))
 
 -- what stands behind the rows
 unfoldable pub lanes_of : PictureLists → ℕ → Content
 lanes_of p left =
-    Contents.Both (nodes p left p.nodes) (Contents.Both (each (end_head p left) p.lanes) (each (lane_bars p left) p.lanes))
+    Contents.Both (nodes p left p.nodes) (Contents.Both (each (lane_bars p left) p.lanes) (each (end_head p left) p.lanes))
 
 -- the ways of the packets, and the rows of the entries
 unfoldable pub entries_of : PictureLists → ℕ → Content
@@ -62,12 +66,12 @@ entries_of p left =
 
 unfoldable pub inside : PictureLists → ℕ → Content
 inside p left =
-    Contents.Both (front p) (Contents.Both (page (width p left) (height p)) (Contents.Both legend (Contents.Both (lanes_of p left) (entries_of p left))))
+    Contents.Both (front p) (Contents.Both (page (width p left) (height p)) (Contents.Both (legend p) (Contents.Both (lanes_of p left) (entries_of p left))))
 
 abbrev pub svg_attributes : List ℕ → ℕ → ℕ → List Named
 svg_attributes class wide high =
     word (codes "xmlns") (codes "http://www.w3.org/2000/svg") ∷ word (codes "class") class ∷
-    number (codes "width") wide ∷ number (codes "height") high ∷ word (codes "viewBox") (path (place [] 0 0 ∷
+    number (codes "width") wide ∷ number (codes "height") high ∷ word (codes "viewBox") (joined (place [] 0 0 ∷
     place (codes " ") wide high ∷ [])) ∷ word (codes "font-family") (codes "sans-serif") ∷
     word (codes "font-size") (codes "9") ∷ []
 

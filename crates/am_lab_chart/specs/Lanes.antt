@@ -1,5 +1,5 @@
 -- The bands of the nodes, and the heads of their lanes.
-use Rattle.std.specs.Prelude.{ℕ, zero, suc, ◌+◌, ◌-◌, ◌/◌, ◌&&◌, ◌^◌, nat_lt, nat_le, List, [], ◌∷◌, codes, if◌then◌else◌}
+use Rattle.std.specs.Prelude.{ℕ, zero, suc, ◌+◌, ◌-◌, ◌*◌, ◌/◌, ◌&&◌, ◌^◌, nat_lt, nat_le, List, [], ◌∷◌, codes, if◌then◌else◌}
 use Rattle.std.specs.Fmt.{decimal}
 use Rattle.am_names.specs.declared.Tag.{Tag}
 use Rattle.am_office_text.specs.Words.{tag}
@@ -7,12 +7,21 @@ use Rattle.am_lab_picture.specs.Data.{LaneLists, PictureLists}
 use Rattle.am_lab_xml.specs.Trees.{Content}
 use Rattle.am_lab_xml.specs.Trees.{Content as Contents}
 use Rattle.am_lab_picture.specs.Layout.Layout.{band_left, band_width, bottom, has_interfaces, top, x_of_end, x_of_interface}
-use Rattle.am_lab_chart.specs.Captions.{caption, number, word}
+use Rattle.am_lab_chart.specs.Captions.{Word, number, titled, word}
 
--- a text in the middle of a head
-abbrev pub head : ℕ → ℕ → List ℕ → List ℕ → List ℕ → Content
-head x y size lead text =
-    caption (number (codes "x") x ∷ number (codes "y") y ∷ word (codes "class") (codes "head") ∷ word (codes "font-size") size ∷ []) lead text
+-- words in the middle of a lane or a band
+abbrev pub head : Word → ℕ → ℕ → Word → List Word → List Word → Content
+head class x y size told words =
+    titled (codes "text") (number (codes "x") x ∷ number (codes "y") y ∷ word (codes "class") class ∷ word (codes "font-size") size ∷ []) told words
+
+-- so many times again, every 900 pixels: at each 50th row, or at each 300th where rows have no text
+abbrev pub repeated : ℕ → List Word → List Word → ℕ → Content
+repeated x told words zero = Contents.Nothing
+repeated x told words (suc page) =
+    Contents.Both (repeated x told words page) (head (codes "again") x (top + 900 * suc page + 3) (codes "9") told words)
+
+abbrev pub pages : PictureLists → ℕ
+pages p = (bottom p - top) / 900
 
 -- ---- endpoints
 
@@ -20,15 +29,35 @@ head x y size lead text =
 unfoldable pub tag_size : Tag → List ℕ
 tag_size t = if nat_le (10 ^ 11) t.0 && nat_lt t.0 18446744073709551615 then codes "5" else codes "9"
 
--- an endpoint's number and tag
+abbrev pub end_title : LaneLists → List Word
+end_title lane = codes "endpoint " ∷ decimal lane.id.0 ∷ codes " of node " ∷ decimal lane.node.0 ∷ codes ", tag " ∷ tag lane.tag ∷ []
+
+abbrev pub end_words : LaneLists → List Word
+end_words lane = codes "endpoint " ∷ decimal lane.id.0 ∷ []
+
+abbrev pub tag_words : LaneLists → List Word
+tag_words lane = codes "tag " ∷ tag lane.tag ∷ []
+
+-- an endpoint's number and tag, and its number again
 unfoldable pub end_head : PictureLists → ℕ → LaneLists → Content
 end_head p left lane =
-    Contents.Both (head x (top - 20) (codes "9") (codes "endpoint ") (decimal lane.id.0)) (head x (top - 8) (tag_size lane.tag) (codes "tag ") (tag lane.tag))
+    Contents.Both (head (codes "head") x (top - 20) (codes "9") (end_title lane) (end_words lane))
+    (Contents.Both (head (codes "head") x (top - 8) (tag_size lane.tag) (end_title lane) (tag_words lane))
+    (repeated x (end_title lane) (end_words lane) (pages p)))
   where
     x : ℕ
     x = x_of_end p left lane.id
 
 -- ---- nodes
+
+abbrev pub node_words : ℕ → List Word
+node_words node = codes "node " ∷ decimal node ∷ []
+
+abbrev pub interface_title : ℕ → List Word
+interface_title node = codes "interface of node " ∷ decimal node ∷ []
+
+abbrev pub interface_words : ℕ → List Word
+interface_words node = codes "i" ∷ decimal node ∷ []
 
 unfoldable pub band : PictureLists → ℕ → ℕ → Content
 band p left node =
@@ -36,14 +65,20 @@ band p left node =
     (Contents.Empty (codes "rect")
     (word (codes "class") (codes "band") ∷ number (codes "x") (band_left p left node) ∷ number (codes "y") (top - 36) ∷
     number (codes "width") (band_width p node) ∷ number (codes "height") (bottom p - top + 44) ∷ []))
-    (head (band_left p left node + band_width p node / 2) (top - 42) (codes "12") (codes "node ") (decimal node))
+    (head (codes "head") (band_left p left node + band_width p node / 2) (top - 42) (codes "12") (node_words node) (node_words node))
 
--- the interface's number, and its dotted lane
+-- the interface's dotted lane
+unfoldable pub dotted : PictureLists → ℕ → List Word → Content
+dotted p x told =
+    titled (codes "line")
+    (word (codes "class") (codes "lane") ∷ number (codes "x1") x ∷ number (codes "y1") top ∷ number (codes "x2") x ∷ number (codes "y2") (bottom p) ∷ [])
+    told []
+
+-- its number, its lane, and its number again
 unfoldable pub interface_lane : PictureLists → ℕ → ℕ → Content
 interface_lane p x node =
-    Contents.Both (head x (top - 8) (codes "9") (codes "i") (decimal node))
-    (Contents.Empty (codes "line")
-    (word (codes "class") (codes "lane") ∷ number (codes "x1") x ∷ number (codes "y1") top ∷ number (codes "x2") x ∷ number (codes "y2") (bottom p) ∷ []))
+    Contents.Both (head (codes "head") x (top - 8) (codes "9") (interface_title node) (interface_words node))
+    (Contents.Both (dotted p x (interface_title node)) (repeated x (interface_title node) (interface_words node) (pages p)))
 
 abbrev pub interface : PictureLists → ℕ → ℕ → Content
 interface p left node =

@@ -1,11 +1,13 @@
 -- The shapes of the signs, the style sheet, and the legend.
-use Rattle.std.specs.Prelude.{ℕ, ◌+◌, List, [], ◌∷◌, codes}
+use Rattle.std.specs.Prelude.{ℕ, ◌+◌, List, [], ◌∷◌, codes, if◌then◌else◌}
+use Rattle.am_lab_picture.specs.Data.{PictureLists}
 use Rattle.am_lab_xml.specs.Trees.{Content, Named}
 use Rattle.am_lab_xml.specs.Trees.{Content as Contents}
 use Rattle.am_lab_chart.specs.declared.legends.Head.{Head}
 use Rattle.am_lab_chart.specs.declared.legends.Meaning.{Meaning}
 use Rattle.am_lab_chart.specs.declared.legends.Shape.{Shape}
-use Rattle.am_lab_chart.specs.Captions.{caption, number, word}
+use Rattle.am_lab_chart.specs.Captions.{caption, holding, number, word}
+use Rattle.am_lab_chart.specs.Known.{occurs}
 
 -- a sign's shape: what is filled, and what is only stroked
 pub record Drawn : Type 0 where
@@ -17,12 +19,13 @@ pub record Headed : Type 0 where
   pub id : List ℕ
   pub class : List ℕ
 
+-- a sign of the legend, the word by which it is known whether it occurs, and the room that it takes
 pub record Explained : Type 0 where
+  pub key : List ℕ
   pub sign : List ℕ
   pub class : List ℕ
   pub dashes : List ℕ
-  pub x : ℕ
-  pub y : ℕ
+  pub width : ℕ
   pub text : List ℕ
 
 abbrev pub drawn_as : Shape → Drawn
@@ -32,10 +35,10 @@ abbrev pub headed_as : Head → Headed
 headed_as h = record { id = h.id.now; class = h.class.now }
 
 abbrev pub explained_as : Meaning → Explained
-explained_as m = record { sign = m.sign.now; class = m.class.now; dashes = m.dashes.now; x = m.x; y = m.y; text = m.text.now }
+explained_as m = record { key = m.key.now; sign = m.sign.now; class = m.class.now; dashes = m.dashes.now; width = m.width; text = m.text.now }
 
-unfoldable pub style : List ℕ → Content
-style rules = Contents.Element (codes "style") [] (Contents.Text rules)
+abbrev pub style : List ℕ → Content
+style rules = holding (codes "style") [] rules
 
 abbrev pub path : List ℕ → List ℕ → Content
 path class d = Contents.Empty (codes "path") (word (codes "class") class ∷ word (codes "d") d ∷ [])
@@ -54,11 +57,17 @@ head_attributes h =
 unfoldable pub arrow_head : Headed → Content
 arrow_head h = Contents.Element (codes "marker") (head_attributes h) (path (codes "area") (codes "M0 0L8 4L0 8z"))
 
--- a sign of the legend, and at its right what it stands for
-unfoldable pub meaning : Explained → Content
-meaning m =
+-- a sign of the legend at a place, and at its right what it stands for
+unfoldable pub meaning : ℕ → ℕ → Explained → Content
+meaning x y m =
     Contents.Both
     (Contents.Empty (codes "use")
-    (word (codes "href") m.sign ∷ number (codes "x") m.x ∷ number (codes "y") m.y ∷ word (codes "class") m.class ∷
+    (word (codes "href") m.sign ∷ number (codes "x") x ∷ number (codes "y") y ∷ word (codes "class") m.class ∷
     word (codes "stroke-dasharray") m.dashes ∷ []))
-    (caption (number (codes "x") (m.x + 16) ∷ number (codes "y") (m.y + 3) ∷ word (codes "class") (codes "plain") ∷ []) [] m.text)
+    (caption (number (codes "x") (x + 16) ∷ number (codes "y") (y + 3) ∷ word (codes "class") (codes "plain") ∷ []) (m.text ∷ []))
+
+-- a line of the legend from a place on: those of its signs that occur in the picture
+abbrev pub meanings : PictureLists → ℕ → ℕ → List Explained → Content
+meanings p x y [] = Contents.Nothing
+meanings p x y (m ∷ more) =
+    if occurs p m.key then Contents.Both (meaning x y m) (meanings p (x + m.width) y more) else meanings p x y more

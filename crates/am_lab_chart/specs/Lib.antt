@@ -3,6 +3,8 @@ pub mod Bars
 pub mod Ways
 pub mod Rows
 pub mod Lanes
+pub mod Known
 pub mod Legends
 pub mod Tables
 pub mod Drawing
+pub mod Titles

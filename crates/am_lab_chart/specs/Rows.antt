@@ -16,25 +16,25 @@ use Rattle.am_lab_picture.specs.declared.layout.signs.Ending.TheVariants as Endi
 use Rattle.am_lab_picture.specs.declared.layout.signs.Link.{Link}
 use Rattle.am_lab_picture.specs.Layout.Layout.{has_text, x_of_end, x_of_interface, y_of}
 use Rattle.am_lab_picture.specs.Layout.Words.{class_of, fate_class, fate_sign, head_of}
-use Rattle.am_lab_chart.specs.Captions.{caption, number, sign_at, word}
+use Rattle.am_lab_chart.specs.Captions.{caption, holding, number, sign_at, title, word}
 use Rattle.am_lab_picture.specs.Layout.Signs.{ending_dashes, ending_sign, inner_of, label_of, link_of, sign_of, spot_of}
 
 -- ---- at the left
 
 -- the entry's line is the title of its row
-unfoldable pub title : Row → Content
-title row = Contents.Element (codes "title") [] (Contents.Text (printed row.entry))
+abbrev pub row_title : Row → Content
+row_title row = title (printed row.entry)
 
 unfoldable pub line_number : ℕ → ℕ → Content
 line_number y line =
-    caption (number (codes "x") 38 ∷ number (codes "y") (y + 4) ∷ word (codes "class") (codes "line-number") ∷ []) [] (decimal line)
+    caption (number (codes "x") 38 ∷ number (codes "y") (y + 4) ∷ word (codes "class") (codes "line-number") ∷ []) (decimal line ∷ [])
 
 unfoldable pub line_text : ℕ → Row → Content
 line_text y row =
-    Contents.Element (codes "text")
+    holding (codes "text")
     (number (codes "x") 62 ∷ number (codes "y") (y + 4) ∷ word (codes "class") (class_of row.about) ∷
     word (codes "font-family") (codes "monospace") ∷ word (codes "font-size") (codes "11") ∷ [])
-    (Contents.Text (printed row.entry))
+    (printed row.entry)
 
 abbrev pub texts_of : PictureLists → ℕ → ℕ → Row → Content
 texts_of p y line row = if has_text p then Contents.Both (line_number y line) (line_text y row) else Contents.Nothing
@@ -73,13 +73,13 @@ link p left x y about (Some to) =
 
 -- what is written in the sign
 unfoldable pub inner_text : ℕ → ℕ → List ℕ → Content
-inner_text x y text = caption (number (codes "x") x ∷ number (codes "y") (y + 3) ∷ word (codes "class") (codes "in-sign") ∷ []) [] text
+inner_text x y text = caption (number (codes "x") x ∷ number (codes "y") (y + 3) ∷ word (codes "class") (codes "in-sign") ∷ []) (text ∷ [])
 
 abbrev pub inner : PictureLists → ℕ → ℕ → Option (List ℕ) → Content
 inner p x y None = Contents.Nothing
 inner p x y (Some text) = if has_text p then inner_text x y text else Contents.Nothing
 
--- what is written beside the sign: at its right, or over the middle of its line
+-- what is written beside the sign, below the middle of the row, where no arrow ends: at its right, or in the middle of its line
 unfoldable pub label_x : PictureLists → ℕ → ℕ → Option Link → ℕ
 label_x p left x None = x + 9
 label_x p left x (Some to) = (x + x_of_end p left to.far) / 2
@@ -90,8 +90,8 @@ label_anchor (Some to) = codes "middle"
 
 unfoldable pub label_at : ℕ → ℕ → List ℕ → List ℕ → List ℕ → Content
 label_at x y class anchor text =
-    caption (number (codes "x") x ∷ number (codes "y") y ∷ word (codes "dy") (codes "-2") ∷
-    word (codes "class") class ∷ word (codes "text-anchor") anchor ∷ []) [] text
+    caption (number (codes "x") x ∷ number (codes "y") y ∷ word (codes "dy") (codes "9") ∷
+    word (codes "class") class ∷ word (codes "text-anchor") anchor ∷ []) (text ∷ [])
 
 abbrev pub label_text : PictureLists → ℕ → ℕ → ℕ → Option Named → Option Link → List ℕ → Content
 label_text p left x y about to text = label_at (label_x p left x to) y (class_of about) (label_anchor to) text
@@ -116,7 +116,7 @@ mark p left x y row =
     to = link_of row.entry.event row.entry.outcome
 
 unfoldable pub row_head : PictureLists → ℕ → ℕ → Row → Content
-row_head p y line row = Contents.Both (title row) (Contents.Both (fate_of p y row.about) (texts_of p y line row))
+row_head p y line row = Contents.Both (row_title row) (Contents.Both (fate_of p y row.about) (texts_of p y line row))
 
 abbrev pub row_at : PictureLists → ℕ → ℕ → ℕ → Row → Content
 row_at p left y line row = Contents.Both (row_head p y line row) (mark p left (x_of p left (spot_of row.entry.event)) y row)

@@ -8,9 +8,13 @@ drawn id area edge = record { id = id; area = area; edge = edge }
 abbrev pub headed : List ℕ → List ℕ → Headed
 headed id class = record { id = id; class = class }
 
--- a sign in a class, dashed so, at a place, and what it stands for
-abbrev pub explained : List ℕ → List ℕ → List ℕ → ℕ → ℕ → List ℕ → Explained
-explained sign class dashes x y text = record { sign = sign; class = class; dashes = dashes; x = x; y = y; text = text }
+-- what occurs by this word, its sign in a class, dashed so, the room that it takes, and what it stands for
+abbrev pub explained : List ℕ → List ℕ → List ℕ → List ℕ → ℕ → List ℕ → Explained
+explained key sign class dashes width text = record { key = key; sign = sign; class = class; dashes = dashes; width = width; text = text }
+
+-- a sign that is known by itself, in dark grey
+abbrev pub sign : List ℕ → ℕ → List ℕ → Explained
+sign name width text = explained name name (codes "plain") (codes "none") width text
 
 -- the shapes of what calls come to
 unfoldable pub call_shapes : List Drawn
@@ -72,58 +76,59 @@ heads =
 -- the legend of fates
 unfoldable pub fate_meanings : List Explained
 fate_meanings =
-    explained (codes "#fate-ran") (codes "ran") (codes "none") 20 18 (codes "ran") ∷
-    explained (codes "#fate-returned") (codes "returned") (codes "none") 69 18 (codes "returned") ∷
-    explained (codes "#fate-unknown") (codes "unknown") (codes "none") 144 18 (codes "unknown") ∷
-    explained (codes "#fate-unknown-but-ran") (codes "unknown-but-ran") (codes "none") 214 18 (codes "unknown, but ran") ∷
-    explained (codes "#fate-pending") (codes "pending") (codes "none") 331 18 (codes "pending") ∷
-    explained (codes "#no-fate") (codes "plain") (codes "none") 401 18 (codes "no message, or none that was accepted") ∷
+    explained (codes "ran") (codes "#fate-ran") (codes "ran") (codes "none") 49 (codes "ran") ∷
+    explained (codes "returned") (codes "#fate-returned") (codes "returned") (codes "none") 75 (codes "returned") ∷
+    explained (codes "unknown") (codes "#fate-unknown") (codes "unknown") (codes "none") 70 (codes "unknown") ∷
+    explained (codes "unknown-but-ran") (codes "#fate-unknown-but-ran") (codes "unknown-but-ran") (codes "none") 117 (codes "unknown, but ran") ∷
+    explained (codes "pending") (codes "#fate-pending") (codes "pending") (codes "none") 70 (codes "pending") ∷
+    explained (codes "plain") (codes "#no-fate") (codes "plain") (codes "none") 226 (codes "no message, or none that was accepted") ∷
     []
 
 -- the legend of bars
 unfoldable pub bar_meanings : List Explained
 bar_meanings =
-    explained (codes "#box") (codes "frame") (codes "none") 20 42 (codes "in a frame (its number)") ∷
-    explained (codes "#box") (codes "draining") (codes "none") 173 42 (codes "draining") ∷
-    explained (codes "#box") (codes "host") (codes "none") 248 42 (codes "on the host") ∷
-    explained (codes "#box") (codes "disk") (codes "none") 339 42 (codes "on disk") ∷
-    explained (codes "#box") (codes "records") (codes "none") 409 42 (codes "records of requests that are out") ∷
-    explained (codes "#box") (codes "received") (codes "none") 609 42 (codes "received and not polled") ∷ []
-
--- the legend of the ways of packets
-unfoldable pub way_meanings : List Explained
-way_meanings =
-    explained (codes "#way") (codes "plain") (codes "none") 26 66 (codes "request") ∷
-    explained (codes "#way") (codes "plain") (codes "9 3") 102 66 (codes "reply") ∷
-    explained (codes "#way") (codes "plain") (codes "2 3") 168 66 (codes "answer") ∷
-    explained (codes "#lost-left") (codes "plain") (codes "none") 253 66 (codes "never received") ∷
-    explained (codes "#stopped") (codes "plain") (codes "none") 359 66 (codes "refused there") ∷ []
-
--- the legend of what a source is told
-unfoldable pub told_meanings : List Explained
-told_meanings =
-    explained (codes "#settled") (codes "plain") (codes "none") 460 66 (codes "accepted there") ∷
-    explained (codes "#requeued") (codes "plain") (codes "none") 566 66 (codes "put back") ∷
-    explained (codes "#came-back") (codes "plain") (codes "none") 641 66 (codes "returned") ∷
-    explained (codes "#timed-out") (codes "plain") (codes "none") 716 66 (codes "unknown") ∷ []
+    explained (codes "frame") (codes "#box") (codes "frame") (codes "none") 153 (codes "in a frame (its number)") ∷
+    explained (codes "draining") (codes "#box") (codes "draining") (codes "none") 75 (codes "draining") ∷
+    explained (codes "host") (codes "#box") (codes "host") (codes "none") 91 (codes "on the host") ∷
+    explained (codes "disk") (codes "#box") (codes "disk") (codes "none") 70 (codes "on disk") ∷
+    explained (codes "direct") (codes "#box") (codes "direct") (codes "none") 143 (codes "on the direct network") ∷
+    explained (codes "records") (codes "#box") (codes "records") (codes "none") 200 (codes "records of requests that are out") ∷
+    explained (codes "received") (codes "#box") (codes "received") (codes "none") 153 (codes "received and not polled") ∷
+    []
 
 -- the legend of calls
 unfoldable pub call_meanings : List Explained
 call_meanings =
-    explained (codes "#request") (codes "plain") (codes "none") 20 90 (codes "request") ∷
-    explained (codes "#run") (codes "plain") (codes "none") 91 90 (codes "run (its handler)") ∷
-    explained (codes "#notice") (codes "plain") (codes "none") 213 90 (codes "notice") ∷
-    explained (codes "#refused") (codes "plain") (codes "none") 278 90 (codes "refused call") ∷
-    explained (codes "#blocked") (codes "plain") (codes "none") 376 90 (codes "no room for a reply") ∷
-    explained (codes "#given-up") (codes "plain") (codes "none") 508 90 (codes "given up") ∷
-    explained (codes "#closed") (codes "plain") (codes "none") 586 90 (codes "closed") ∷ []
+    sign (codes "#request") 71 (codes "request") ∷
+    sign (codes "#run") 122 (codes "run (its handler)") ∷
+    sign (codes "#notice") 65 (codes "notice") ∷
+    sign (codes "#refused") 98 (codes "refused call") ∷
+    sign (codes "#blocked") 132 (codes "no room for a reply") ∷
+    sign (codes "#given-up") 78 (codes "given up") ∷
+    sign (codes "#closed") 65 (codes "closed") ∷
+    []
 
 -- the legend of other events
 unfoldable pub event_meanings : List Explained
 event_meanings =
-    explained (codes "#done") (codes "plain") (codes "none") 20 114 (codes "done") ∷
-    explained (codes "#nothing") (codes "plain") (codes "none") 74 114 (codes "nothing came of it") ∷
-    explained (codes "#moved") (codes "plain") (codes "none") 205 114 (codes "moved") ∷
-    explained (codes "#failed") (codes "plain") (codes "none") 269 114 (codes "device failed") ∷
-    explained (codes "#time-out") (codes "plain") (codes "none") 370 114 (codes "time-out") ∷
-    explained (codes "#wanted") (codes "plain") (codes "none") 445 114 (codes "wanted") ∷ []
+    sign (codes "#done") 54 (codes "done") ∷
+    sign (codes "#nothing") 131 (codes "nothing came of it") ∷
+    sign (codes "#moved") 64 (codes "moved") ∷
+    sign (codes "#failed") 101 (codes "device failed") ∷
+    sign (codes "#time-out") 75 (codes "time-out") ∷
+    sign (codes "#wanted") 65 (codes "wanted") ∷
+    []
+
+-- the legend of packets, and of what their sources are told
+unfoldable pub way_meanings : List Explained
+way_meanings =
+    explained (codes "none") (codes "#way") (codes "plain") (codes "none") 90 (codes "request") ∷
+    explained (codes "9 3") (codes "#way") (codes "plain") (codes "9 3") 80 (codes "reply") ∷
+    explained (codes "2 3") (codes "#way") (codes "plain") (codes "2 3") 85 (codes "answer") ∷
+    sign (codes "#lost-left") 106 (codes "never received") ∷
+    sign (codes "#stopped") 101 (codes "refused there") ∷
+    sign (codes "#settled") 106 (codes "accepted there") ∷
+    sign (codes "#requeued") 75 (codes "put back") ∷
+    sign (codes "#came-back") 75 (codes "returned") ∷
+    sign (codes "#timed-out") 70 (codes "unknown") ∷
+    []

@@ -1,44 +1,89 @@
 //! The bars of an endpoint's lane.
 
-ghost use Rattle.std.specs.Prelude.{◌≡◌, ◌≤◌, ◌++◌, OnOk, length};
+ghost use Rattle.std.specs.Prelude.{◌≡◌, ◌≤◌, ◌++◌, OnOk, length, map};
 ghost use Rattle.am_lab_chart.specs.Bars as bars;
 ghost use Rattle.am_lab_picture.specs.Layout.Layout.{IsDrawable};
 ghost use Rattle.am_lab_xml.specs.Trees.{each, printed};
+ghost use Rattle.am_office_text.specs.Pieces.{word_of};
 
-use crate::captions::put_caption;
+use crate::captions::{put_caption, put_titled};
 use am_lab_picture::layout::{frame_of, has_text, left_of, place_class, y_of};
 use am_lab_picture::{Lane, Picture, Residency, Span};
 use am_lab_xml::Attribute::{Number, Word};
-use am_lab_xml::put_empty;
-use am_office_text::small;
+use am_names::EndpointId;
+use am_office_text::{LinePiece, count, small};
 use std::alloc::{AllocError, Global};
+
+#[tactic(auto, unfolding(crate::specs::Bars::place_name))]
+fn place_name(place: Residency) -> &'static str
+    ensures { result.now ≡ bars.place_name place }
+{
+    match place {
+        Residency::Direct => "direct network",
+        Residency::Frame(_) => "frame ",
+        Residency::Draining(_) => "draining in frame ",
+        Residency::Host => "host",
+        Residency::Disk => "disk",
+    }
+}
+
+fn amount(count: Option<u8>) -> LinePiece
+    ensures { word_of result ≡ bars.amount count }
+{
+    match count {
+        None => LinePiece::Text(""),
+        Some(count) => small(count),
+    }
+}
+
+// The words of a bar's title.
+fn bar_title(
+    end: EndpointId,
+    shown: &'static str,
+    held: Option<u8>,
+    from: u32,
+    until: u32,
+) -> [LinePiece; 9]
+    ensures { map word_of result ≡ bars.bar_title end shown.now held from until }
+{
+    [
+        LinePiece::Text("endpoint "),
+        small(end.0),
+        LinePiece::Text(": "),
+        LinePiece::Text(shown),
+        amount(held),
+        LinePiece::Text(", line "),
+        count(from),
+        LinePiece::Text(" to "),
+        count(until),
+    ]
+}
 
 // Appends a box from one line of the report to another.
 #[tactic(auto, unfolding(crate::specs::Bars::stretch))]
 fn put_stretch(
     out: &mut Vec<u8>,
+    alloc: Global,
     picture: &Picture,
     class: &'static str,
     x: u64,
     wide: u64,
     from: u32,
     until: u32,
+    told: &[LinePiece],
 ) -> Result<(), AllocError>
     requires { IsDrawable picture.now }
-    ensures { OnOk result (out.new.items ≡ out.old.items ++ printed (bars.stretch picture.now class.now x wide from until)) }
+    ensures { OnOk result (out.new.items ≡ out.old.items ++ printed (bars.stretch picture.now class.now x wide from until (map word_of told.now))) }
 {
     let (y, end) = (y_of(picture, from), y_of(picture, until));
-    put_empty(
-        out,
-        "rect",
-        &[
-            Word("class", class),
-            Number("x", x),
-            Number("y", y),
-            Number("width", wide),
-            Number("height", end.saturating_sub(y)),
-        ],
-    )
+    let given = [
+        Word("class", class),
+        Number("x", x),
+        Number("y", y),
+        Number("width", wide),
+        Number("height", end.saturating_sub(y)),
+    ];
+    put_titled(out, alloc, "rect", &given, told, &[])
 }
 
 fn has_room(picture: &Picture, from: u32, until: u32) -> bool
@@ -70,8 +115,7 @@ fn put_frame_caption(
             Number("y", y),
             Word("class", "in-frame"),
         ],
-        "",
-        small(frame),
+        &[small(frame)],
     )
 }
 
@@ -107,15 +151,26 @@ fn put_bar(
     alloc: Global,
     picture: &Picture,
     x: u64,
+    end: EndpointId,
     span: Span<Residency>,
 ) -> Result<(), AllocError>
     requires drawable { IsDrawable picture.now }
     requires narrow { x ≤ 60000 }
-    ensures { OnOk result (out.new.items ≡ out.old.items ++ printed (bars.bar picture.now x span)) }
+    ensures { OnOk result (out.new.items ≡ out.old.items ++ printed (bars.bar picture.now x end span)) }
 {
-    let class = place_class(span.value);
-    put_stretch(out, picture, class, x + 28, 10, span.from, span.until)?;
-    let frame = frame_of(span.value);
+    let (class, frame) = (place_class(span.value), frame_of(span.value));
+    let told = bar_title(end, place_name(span.value), frame, span.from, span.until);
+    put_stretch(
+        out,
+        alloc,
+        picture,
+        class,
+        x + 28,
+        10,
+        span.from,
+        span.until,
+        &told,
+    )?;
     put_frame(out, alloc, picture, x, span.from, span.until, frame)
 }
 
@@ -124,14 +179,15 @@ fn put_residency(
     alloc: Global,
     picture: &Picture,
     x: u64,
+    end: EndpointId,
     spans: &[Span<Residency>],
 ) -> Result<(), AllocError>
     requires drawable { IsDrawable picture.now }
     requires narrow { x ≤ 60000 }
-    ensures { OnOk result (out.new.items ≡ out.old.items ++ printed (each (bars.bar picture.now x) spans.now)) }
+    ensures { OnOk result (out.new.items ≡ out.old.items ++ printed (each (bars.bar picture.now x end) spans.now)) }
 {
     for span in spans {
-        put_bar(out, alloc, picture, x, *span)?;
+        put_bar(out, alloc, picture, x, end, *span)?;
     }
     Ok(())
 }
@@ -146,76 +202,90 @@ fn level_width(count: u8) -> u64
 #[tactic(auto, unfolding(crate::specs::Bars::records))]
 fn put_record_level(
     out: &mut Vec<u8>,
+    alloc: Global,
     picture: &Picture,
     x: u64,
+    end: EndpointId,
     span: Span<u8>,
 ) -> Result<(), AllocError>
     requires drawable { IsDrawable picture.now }
     requires narrow { x ≤ 60000 }
-    ensures { OnOk result (out.new.items ≡ out.old.items ++ printed (bars.records picture.now x span)) }
+    ensures { OnOk result (out.new.items ≡ out.old.items ++ printed (bars.records picture.now x end span)) }
 {
     if span.value == 0 {
         return Ok(());
     }
     let wide = level_width(span.value);
     let place = x + (28 - wide);
-    put_stretch(out, picture, "records", place, wide, span.from, span.until)
+    let told = bar_title(end, "records ", Some(span.value), span.from, span.until);
+    put_stretch(
+        out, alloc, picture, "records", place, wide, span.from, span.until, &told,
+    )
 }
 
 #[tactic(auto, unfolding(crate::specs::Bars::received))]
 fn put_received_level(
     out: &mut Vec<u8>,
+    alloc: Global,
     picture: &Picture,
     x: u64,
+    end: EndpointId,
     span: Span<u8>,
 ) -> Result<(), AllocError>
     requires drawable { IsDrawable picture.now }
     requires narrow { x ≤ 60000 }
-    ensures { OnOk result (out.new.items ≡ out.old.items ++ printed (bars.received picture.now x span)) }
+    ensures { OnOk result (out.new.items ≡ out.old.items ++ printed (bars.received picture.now x end span)) }
 {
     if span.value == 0 {
         return Ok(());
     }
     let wide = level_width(span.value);
+    let told = bar_title(end, "received ", Some(span.value), span.from, span.until);
     put_stretch(
         out,
+        alloc,
         picture,
         "received",
         x + 38,
         wide,
         span.from,
         span.until,
+        &told,
     )
 }
 
 fn put_records(
     out: &mut Vec<u8>,
+    alloc: Global,
     picture: &Picture,
     x: u64,
+    end: EndpointId,
     spans: &[Span<u8>],
 ) -> Result<(), AllocError>
     requires drawable { IsDrawable picture.now }
     requires narrow { x ≤ 60000 }
-    ensures { OnOk result (out.new.items ≡ out.old.items ++ printed (each (bars.records picture.now x) spans.now)) }
+    ensures { OnOk result (out.new.items ≡ out.old.items ++ printed (each (bars.records picture.now x end) spans.now)) }
 {
     for span in spans {
-        put_record_level(out, picture, x, *span)?;
+        put_record_level(out, alloc, picture, x, end, *span)?;
     }
     Ok(())
 }
 
 fn put_received(
     out: &mut Vec<u8>,
+    alloc: Global,
     picture: &Picture,
     x: u64,
+    end: EndpointId,
     spans: &[Span<u8>],
 ) -> Result<(), AllocError>
     requires drawable { IsDrawable picture.now }
     requires narrow { x ≤ 60000 }
-    ensures { OnOk result (out.new.items ≡ out.old.items ++ printed (each (bars.received picture.now x) spans.now)) }
+    ensures { OnOk result (out.new.items ≡ out.old.items ++ printed (each (bars.received picture.now x end) spans.now)) }
 {
     for span in spans {
-        put_received_level(out, picture, x, *span)?;
+        put_received_level(out, alloc, picture, x, end, *span)?;
     }
     Ok(())
 }
@@ -233,9 +303,9 @@ fn put_lane(
     ensures { OnOk result (out.new.items ≡ out.old.items ++ printed (bars.lane_bars picture.now left lane.now)) }
 {
     let x = left_of(picture, left, lane.id);
-    put_residency(out, alloc, picture, x, &lane.residency)?;
-    put_records(out, picture, x, &lane.records)?;
-    put_received(out, picture, x, &lane.received)
+    put_residency(out, alloc, picture, x, lane.id, &lane.residency)?;
+    put_records(out, alloc, picture, x, lane.id, &lane.records)?;
+    put_received(out, alloc, picture, x, lane.id, &lane.received)
 }
 
 /// Appends the bars of lanes.

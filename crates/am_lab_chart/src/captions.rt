@@ -1,7 +1,7 @@
-//! Signs and short texts.
+//! Texts, titles and signs.
 
 ghost use Rattle.std.specs.Prelude.{◌≡◌, ◌++◌, IfOk, OnOk, map};
-ghost use Rattle.am_lab_chart.specs.Captions.{caption, sign_at};
+ghost use Rattle.am_lab_chart.specs.Captions.{caption, holding, joined, sign_at, title, titled};
 ghost use Rattle.am_lab_xml.specs.Attributes.{attribute_of};
 ghost use Rattle.am_lab_xml.specs.Escaped.{escaped};
 ghost use Rattle.am_lab_xml.specs.Trees.{printed};
@@ -12,37 +12,76 @@ use am_lab_xml::{Attribute, put_close, put_empty, put_open, put_text};
 use am_office_text::{LinePiece, put_word};
 use std::alloc::{AllocError, Global};
 
-fn text_of(alloc: Global, piece: LinePiece) -> Result<Vec<u8>, AllocError>
-    ensures { IfOk result (λ text. text.items ≡ word_of piece) }
+// Words, one behind the other.
+fn text_of(alloc: Global, words: &[LinePiece]) -> Result<Vec<u8>, AllocError>
+    ensures { IfOk result (λ text. text.items ≡ joined (map word_of words.now)) }
 {
     let mut text = Vec::new(alloc);
-    put_word(&mut text, piece)?;
+    for word in words {
+        put_word(&mut text, *word)?;
+    }
     Ok(text)
 }
 
-// Appends a word as text.
-fn put_piece(out: &mut Vec<u8>, alloc: Global, piece: LinePiece) -> Result<(), AllocError>
-    ensures { OnOk result (out.new.items ≡ out.old.items ++ escaped (word_of piece)) }
+// Appends words as text.
+fn put_words(out: &mut Vec<u8>, alloc: Global, words: &[LinePiece]) -> Result<(), AllocError>
+    ensures { OnOk result (out.new.items ≡ out.old.items ++ escaped (joined (map word_of words.now))) }
 {
-    let text = text_of(alloc, piece)?;
+    let text = text_of(alloc, words)?;
     put_text(out, &text)
 }
 
-/// Appends a text element with these attributes, which holds a word behind a text.
+/// Appends an element with these attributes, which holds a text.
 #[tactic(auto, using(std::proofs::Common::append_assoc))]
+pub(crate) fn put_holding(
+    out: &mut Vec<u8>,
+    name: &str,
+    given: &[Attribute],
+    text: &[u8],
+) -> Result<(), AllocError>
+    ensures { OnOk result (out.new.items ≡ out.old.items ++ printed (holding name.now (map attribute_of given.now) text.now)) }
+{
+    put_open(out, name, given)?;
+    put_text(out, text)?;
+    put_close(out, name)
+}
+
+/// Appends a text element with these attributes and words.
 pub(crate) fn put_caption(
     out: &mut Vec<u8>,
     alloc: Global,
     given: &[Attribute],
-    lead: &str,
-    piece: LinePiece,
+    words: &[LinePiece],
 ) -> Result<(), AllocError>
-    ensures { OnOk result (out.new.items ≡ out.old.items ++ printed (caption (map attribute_of given.now) lead.now (word_of piece))) }
+    ensures { OnOk result (out.new.items ≡ out.old.items ++ printed (caption (map attribute_of given.now) (map word_of words.now))) }
 {
-    put_open(out, "text", given)?;
-    put_text(out, lead.as_bytes())?;
-    put_piece(out, alloc, piece)?;
-    put_close(out, "text")
+    let text = text_of(alloc, words)?;
+    put_holding(out, "text", given, &text)
+}
+
+fn put_title(out: &mut Vec<u8>, alloc: Global, words: &[LinePiece]) -> Result<(), AllocError>
+    ensures { OnOk result (out.new.items ≡ out.old.items ++ printed (title (joined (map word_of words.now)))) }
+{
+    let text = text_of(alloc, words)?;
+    put_holding(out, "title", &[], &text)
+}
+
+/// Appends an element with these attributes and this title, which holds words.
+#[tactic(auto, using(std::proofs::Common::append_assoc))]
+pub(crate) fn put_titled(
+    out: &mut Vec<u8>,
+    alloc: Global,
+    name: &str,
+    given: &[Attribute],
+    told: &[LinePiece],
+    words: &[LinePiece],
+) -> Result<(), AllocError>
+    ensures { OnOk result (out.new.items ≡ out.old.items ++ printed (titled name.now (map attribute_of given.now) (map word_of told.now) (map word_of words.now))) }
+{
+    put_open(out, name, given)?;
+    put_title(out, alloc, told)?;
+    put_words(out, alloc, words)?;
+    put_close(out, name)
 }
 
 /// Appends a sign at a place, in the colour of a class.

@@ -5,24 +5,25 @@ ghost use Rattle.am_lab_chart.specs.Drawing as drawing;
 ghost use Rattle.am_lab_picture.specs.Layout.Layout as layout;
 ghost use Rattle.am_lab_picture.specs.Layout.Layout.{IsDrawable};
 ghost use Rattle.am_check_lines.specs.Grammar as lines;
+ghost use Rattle.am_lab_chart.specs.Titles.{row_titles, titles_before};
 ghost use Rattle.am_lab_xml.specs.Grammar.{IsDocument};
-ghost use Rattle.am_lab_xml.specs.Reading.{texts_in};
+ghost use Rattle.am_lab_xml.specs.Reading.{first_texts_in, texts_in};
 ghost use Rattle.am_lab_xml.specs.Trees.{opening, printed};
 
 use crate::bars::put_bars;
+use crate::captions::put_holding;
 use crate::lanes::{put_end_heads, put_nodes};
-use crate::legends::put_style;
 use crate::rows::{line_of, put_rows};
 use crate::tables::{
     STYLE, put_bar_meanings, put_call_meanings, put_call_shapes, put_ending_shapes,
     put_event_meanings, put_event_shapes, put_fate_meanings, put_fate_shapes, put_heads,
-    put_legend_shapes, put_told_meanings, put_way_meanings,
+    put_legend_shapes, put_way_meanings,
 };
 use crate::ways::{put_arrows, put_crosses};
 use am_lab_picture::layout::{bottom, has_text, width};
 use am_lab_picture::{Picture, Row};
 use am_lab_xml::Attribute::{Number, Path, Word};
-use am_lab_xml::{Point, put_break, put_close, put_empty, put_open, put_text};
+use am_lab_xml::{Point, put_break, put_close, put_empty, put_open};
 use am_names::NoMemory;
 use std::alloc::{AllocError, Global};
 
@@ -42,15 +43,6 @@ fn size_class(picture: &Picture) -> &'static str
     ensures { result.now ≡ drawing.size_class picture.now }
 {
     if has_text(picture) { "large" } else { "small" }
-}
-
-#[tactic(auto, using(std::proofs::Common::append_assoc), unfolding(crate::specs::Drawing::description))]
-fn put_description(out: &mut Vec<u8>, summary: &[u8]) -> Result<(), AllocError>
-    ensures { OnOk result (out.new.items ≡ out.old.items ++ printed (drawing.description summary.now)) }
-{
-    put_open(out, "desc", &[])?;
-    put_text(out, summary)?;
-    put_close(out, "desc")
 }
 
 #[tactic(auto, using(std::proofs::Common::append_assoc), unfolding(crate::specs::Drawing::shapes))]
@@ -93,21 +85,28 @@ fn put_page(out: &mut Vec<u8>, wide: u64, high: u64) -> Result<(), AllocError>
 fn put_front(out: &mut Vec<u8>, picture: &Picture) -> Result<(), AllocError>
     ensures { OnOk result (out.new.items ≡ out.old.items ++ printed (drawing.front picture.now)) }
 {
-    put_description(out, &picture.summary)?;
-    put_style(out, STYLE)?;
+    put_holding(out, "desc", &[], &picture.summary)?;
+    put_holding(out, "style", &[], STYLE.as_bytes())?;
     put_definitions(out, picture)
 }
 
-#[tactic(auto, using(std::proofs::Common::append_assoc), unfolding(crate::specs::Drawing::legend))]
-fn put_legend(out: &mut Vec<u8>, alloc: Global) -> Result<(), AllocError>
-    ensures { OnOk result (out.new.items ≡ out.old.items ++ printed drawing.legend) }
+fn put_totals(out: &mut Vec<u8>, summary: &[u8]) -> Result<(), AllocError>
+    ensures { OnOk result (out.new.items ≡ out.old.items ++ printed (drawing.totals summary.now)) }
 {
-    put_fate_meanings(out, alloc)?;
-    put_bar_meanings(out, alloc)?;
-    put_way_meanings(out, alloc)?;
-    put_told_meanings(out, alloc)?;
-    put_call_meanings(out, alloc)?;
-    put_event_meanings(out, alloc)
+    let given = [Number("x", 20), Number("y", 134), Word("class", "plain")];
+    put_holding(out, "text", &given, summary)
+}
+
+#[tactic(auto, using(std::proofs::Common::append_assoc), unfolding(crate::specs::Drawing::legend))]
+fn put_legend(out: &mut Vec<u8>, alloc: Global, picture: &Picture) -> Result<(), AllocError>
+    ensures { OnOk result (out.new.items ≡ out.old.items ++ printed (drawing.legend picture.now)) }
+{
+    put_fate_meanings(out, alloc, picture)?;
+    put_bar_meanings(out, alloc, picture)?;
+    put_call_meanings(out, alloc, picture)?;
+    put_event_meanings(out, alloc, picture)?;
+    put_way_meanings(out, alloc, picture)?;
+    put_totals(out, &picture.summary)
 }
 
 #[tactic(auto, using(std::proofs::Common::append_assoc), unfolding(crate::specs::Drawing::lanes_of))]
@@ -122,8 +121,8 @@ fn put_lanes(
     ensures { OnOk result (out.new.items ≡ out.old.items ++ printed (drawing.lanes_of picture.now left)) }
 {
     put_nodes(out, alloc, picture, left, picture.nodes)?;
-    put_end_heads(out, alloc, picture, left, &picture.lanes)?;
-    put_bars(out, alloc, picture, left, &picture.lanes)
+    put_bars(out, alloc, picture, left, &picture.lanes)?;
+    put_end_heads(out, alloc, picture, left, &picture.lanes)
 }
 
 #[tactic(auto, using(std::proofs::Common::append_assoc), unfolding(crate::specs::Drawing::entries_of))]
@@ -137,8 +136,8 @@ fn put_entries(
     requires narrow { left ≤ 4000 }
     ensures { OnOk result (out.new.items ≡ out.old.items ++ printed (drawing.entries_of picture.now left)) }
 {
-    put_arrows(out, picture, left, &picture.arrows)?;
-    put_crosses(out, picture, left, &picture.crosses)?;
+    put_arrows(out, alloc, picture, left, &picture.arrows)?;
+    put_crosses(out, alloc, picture, left, &picture.crosses)?;
     put_rows(out, alloc, picture, left, picture.first, &picture.rows)
 }
 
@@ -159,7 +158,7 @@ fn put_inside(
 {
     put_front(out, picture)?;
     put_page(out, wide, high)?;
-    put_legend(out, alloc)?;
+    put_legend(out, alloc, picture)?;
     put_lanes(out, alloc, picture, left)?;
     put_entries(out, alloc, picture, left)
 }
@@ -261,8 +260,10 @@ pub fn chart(alloc: Global, picture: &Picture) -> Result<Vec<u8>, NoMemory>
     ensures exact { IfOk result (λ text. text.items ≡ drawing.svg_of picture.now) }
     // It is well formed by the grammar of a small XML.
     ensures formed { IfOk result (λ text. IsDocument text.items) }
-    // Its titles, in order and read as text, are the lines of the rows' entries.
-    ensures titles { IfOk result (λ text. texts_in (codes "title") text.items ≡ map (λ row. lines.printed row.entry) picture.now.rows) }
+    // Its titles, in order and read as text, are those of heads, bars, arrows and crosses, and then those of the rows.
+    ensures titles { IfOk result (λ text. texts_in (codes "title") text.items ≡ titles_before picture.now ++ row_titles picture.now) }
+    // Those of the rows, with which each `g` begins, are the lines of the rows' entries.
+    ensures rows { IfOk result (λ text. first_texts_in (codes "g") (codes "title") text.items ≡ map (λ row. lines.printed row.entry) picture.now.rows) }
 {
     text_of(alloc, picture)
 }

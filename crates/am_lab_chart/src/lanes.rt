@@ -1,12 +1,12 @@
 //! The bands of the nodes, and the heads of their lanes.
 
-ghost use Rattle.std.specs.Prelude.{◌≡◌, ◌≤◌, ◌++◌, OnOk};
+ghost use Rattle.std.specs.Prelude.{◌≡◌, ◌≤◌, ◌++◌, OnOk, map};
 ghost use Rattle.am_lab_chart.specs.Lanes as lanes;
 ghost use Rattle.am_lab_picture.specs.Layout.Layout.{IsDrawable};
 ghost use Rattle.am_lab_xml.specs.Trees.{each, printed};
 ghost use Rattle.am_office_text.specs.Pieces.{word_of};
 
-use crate::captions::put_caption;
+use crate::captions::put_titled;
 use am_lab_picture::layout::{
     TOP, band_left, band_width, bottom, has_interfaces, x_of_end, x_of_interface,
 };
@@ -17,25 +17,54 @@ use am_names::{NodeId, Tag};
 use am_office_text::{LinePiece, small};
 use std::alloc::{AllocError, Global};
 
-// Appends a text in the middle of a head.
+// Appends words in the middle of a lane or a band.
 fn put_head(
     out: &mut Vec<u8>,
     alloc: Global,
+    class: &'static str,
     x: u64,
     y: u64,
     size: &'static str,
-    lead: &str,
-    text: LinePiece,
+    told: &[LinePiece],
+    words: &[LinePiece],
 ) -> Result<(), AllocError>
-    ensures { OnOk result (out.new.items ≡ out.old.items ++ printed (lanes.head x y size.now lead.now (word_of text))) }
+    ensures { OnOk result (out.new.items ≡ out.old.items ++ printed (lanes.head class.now x y size.now (map word_of told.now) (map word_of words.now))) }
 {
     let given = [
         Number("x", x),
         Number("y", y),
-        Word("class", "head"),
+        Word("class", class),
         Word("font-size", size),
     ];
-    put_caption(out, alloc, &given, lead, text)
+    put_titled(out, alloc, "text", &given, told, words)
+}
+
+// Appends a head again, every 900 pixels.
+fn put_repeated(
+    out: &mut Vec<u8>,
+    alloc: Global,
+    picture: &Picture,
+    x: u64,
+    told: &[LinePiece],
+    words: &[LinePiece],
+) -> Result<(), AllocError>
+    requires { IsDrawable picture.now }
+    ensures { OnOk result (out.new.items ≡ out.old.items ++ printed (lanes.repeated x (map word_of told.now) (map word_of words.now) (lanes.pages picture.now))) }
+{
+    let pages = bottom(picture).saturating_sub(TOP) / 900;
+    for page in 0..pages {
+        put_head(
+            out,
+            alloc,
+            "again",
+            x,
+            TOP + 900 * (page + 1) + 3,
+            "9",
+            told,
+            words,
+        )?;
+    }
+    Ok(())
 }
 
 #[tactic(auto, unfolding(crate::specs::Lanes::tag_size))]
@@ -61,18 +90,29 @@ fn put_end_head(
     requires narrow { left ≤ 4000 }
     ensures { OnOk result (out.new.items ≡ out.old.items ++ printed (lanes.end_head picture.now left lane.now)) }
 {
-    let x = x_of_end(picture, left, lane.id);
-    put_head(out, alloc, x, TOP - 20, "9", "endpoint ", small(lane.id.0))?;
-    let size = tag_size(lane.tag);
+    let (x, size) = (x_of_end(picture, left, lane.id), tag_size(lane.tag));
+    let (id, tag) = (small(lane.id.0), LinePiece::Tag(lane.tag));
+    let told = [
+        LinePiece::Text("endpoint "),
+        id,
+        LinePiece::Text(" of node "),
+        small(lane.node.0),
+        LinePiece::Text(", tag "),
+        tag,
+    ];
+    let words = [LinePiece::Text("endpoint "), id];
+    put_head(out, alloc, "head", x, TOP - 20, "9", &told, &words)?;
     put_head(
         out,
         alloc,
+        "head",
         x,
         TOP - 8,
         size,
-        "tag ",
-        LinePiece::Tag(lane.tag),
-    )
+        &told,
+        &[LinePiece::Text("tag "), tag],
+    )?;
+    put_repeated(out, alloc, picture, x, &told, &words)
 }
 
 /// Appends the heads of endpoints.
@@ -106,6 +146,7 @@ fn put_band(
     ensures { OnOk result (out.new.items ≡ out.old.items ++ printed (lanes.band picture.now left node)) }
 {
     let (x, wide) = (band_left(picture, left, node), band_width(picture, node));
+    let words = [LinePiece::Text("node "), small(node)];
     put_empty(
         out,
         "rect",
@@ -120,12 +161,34 @@ fn put_band(
     put_head(
         out,
         alloc,
+        "head",
         x + wide / 2,
         TOP - 42,
         "12",
-        "node ",
-        small(node),
+        &words,
+        &words,
     )
+}
+
+#[tactic(auto, unfolding(crate::specs::Lanes::dotted))]
+fn put_dotted(
+    out: &mut Vec<u8>,
+    alloc: Global,
+    picture: &Picture,
+    x: u64,
+    told: &[LinePiece],
+) -> Result<(), AllocError>
+    requires { IsDrawable picture.now }
+    ensures { OnOk result (out.new.items ≡ out.old.items ++ printed (lanes.dotted picture.now x (map word_of told.now))) }
+{
+    let given = [
+        Word("class", "lane"),
+        Number("x1", x),
+        Number("y1", TOP),
+        Number("x2", x),
+        Number("y2", bottom(picture)),
+    ];
+    put_titled(out, alloc, "line", &given, told, &[])
 }
 
 #[tactic(auto, using(std::proofs::Common::append_assoc), unfolding(crate::specs::Lanes::interface_lane))]
@@ -139,18 +202,11 @@ fn put_interface_lane(
     requires { IsDrawable picture.now }
     ensures { OnOk result (out.new.items ≡ out.old.items ++ printed (lanes.interface_lane picture.now x node)) }
 {
-    put_head(out, alloc, x, TOP - 8, "9", "i", small(node))?;
-    put_empty(
-        out,
-        "line",
-        &[
-            Word("class", "lane"),
-            Number("x1", x),
-            Number("y1", TOP),
-            Number("x2", x),
-            Number("y2", bottom(picture)),
-        ],
-    )
+    let told = [LinePiece::Text("interface of node "), small(node)];
+    let words = [LinePiece::Text("i"), small(node)];
+    put_head(out, alloc, "head", x, TOP - 8, "9", &told, &words)?;
+    put_dotted(out, alloc, picture, x, &told)?;
+    put_repeated(out, alloc, picture, x, &told, &words)
 }
 
 fn put_interface(

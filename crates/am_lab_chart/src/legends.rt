@@ -1,12 +1,14 @@
 //! The shapes of the signs, the style sheet, and the legend.
 
-ghost use Rattle.std.specs.Prelude.{◌≡◌, ◌++◌, OnOk, codes, map};
+ghost use Rattle.std.specs.Prelude.{◌≡◌, ◌≤◌, ◌++◌, OnOk, codes, length, map};
 ghost use Rattle.am_lab_chart.specs.Legends as legends;
 ghost use Rattle.am_lab_xml.specs.Trees.{each, opening, printed};
 
 use crate::captions::put_caption;
+use crate::known::occurs;
+use am_lab_picture::Picture;
 use am_lab_xml::Attribute::{Number, Word};
-use am_lab_xml::{put_close, put_empty, put_open, put_text};
+use am_lab_xml::{put_close, put_empty, put_open};
 use am_office_text::LinePiece;
 use std::alloc::{AllocError, Global};
 
@@ -28,22 +30,14 @@ pub struct Head {
 /// A sign of the legend, and what it stands for.
 #[derive(Clone, Copy)]
 pub struct Meaning {
+    /// The word by which it is known whether it occurs.
+    pub key: &'static str,
     pub sign: &'static str,
     pub class: &'static str,
     pub dashes: &'static str,
-    pub x: u32,
-    pub y: u32,
+    /// How many pixels it takes, with its text and the gap behind it.
+    pub width: u8,
     pub text: &'static str,
-}
-
-/// Appends a style sheet.
-#[tactic(auto, using(std::proofs::Common::append_assoc), unfolding(crate::specs::Legends::style))]
-pub(crate) fn put_style(out: &mut Vec<u8>, rules: &str) -> Result<(), AllocError>
-    ensures { OnOk result (out.new.items ≡ out.old.items ++ printed (legends.style rules.now)) }
-{
-    put_open(out, "style", &[])?;
-    put_text(out, rules.as_bytes())?;
-    put_close(out, "style")
 }
 
 fn put_path(out: &mut Vec<u8>, class: &'static str, d: &'static str) -> Result<(), AllocError>
@@ -89,10 +83,17 @@ fn put_arrow_head(out: &mut Vec<u8>, head: Head) -> Result<(), AllocError>
 }
 
 #[tactic(auto, using(std::proofs::Common::append_assoc), unfolding(crate::specs::Legends::meaning))]
-fn put_meaning(out: &mut Vec<u8>, alloc: Global, meaning: Meaning) -> Result<(), AllocError>
-    ensures { OnOk result (out.new.items ≡ out.old.items ++ printed (legends.meaning (legends.explained_as meaning))) }
+fn put_meaning(
+    out: &mut Vec<u8>,
+    alloc: Global,
+    x: u64,
+    y: u64,
+    meaning: Meaning,
+) -> Result<(), AllocError>
+    requires near { x ≤ 60000 }
+    requires low { y ≤ 60000 }
+    ensures { OnOk result (out.new.items ≡ out.old.items ++ printed (legends.meaning x y (legends.explained_as meaning))) }
 {
-    let (x, y) = (u64::from(meaning.x), u64::from(meaning.y));
     put_empty(
         out,
         "use",
@@ -109,7 +110,7 @@ fn put_meaning(out: &mut Vec<u8>, alloc: Global, meaning: Meaning) -> Result<(),
         Number("y", y + 3),
         Word("class", "plain"),
     ];
-    put_caption(out, alloc, &given, "", LinePiece::Text(meaning.text))
+    put_caption(out, alloc, &given, &[LinePiece::Text(meaning.text)])
 }
 
 /// Appends shapes, in this scale.
@@ -136,16 +137,25 @@ pub(crate) fn put_arrow_heads(out: &mut Vec<u8>, heads: &[Head]) -> Result<(), A
     Ok(())
 }
 
-/// Appends what signs stand for.
+/// Appends a line of the legend at this height: what those of the signs stand for that occur in the picture.
 pub(crate) fn put_meanings(
     out: &mut Vec<u8>,
     alloc: Global,
+    picture: &Picture,
+    y: u64,
     meanings: &[Meaning],
 ) -> Result<(), AllocError>
-    ensures { OnOk result (out.new.items ≡ out.old.items ++ printed (each legends.meaning (map legends.explained_as meanings.now))) }
+    requires few { length meanings.now ≤ 9 }
+    requires low { y ≤ 60000 }
+    ensures { OnOk result (out.new.items ≡ out.old.items ++ printed (legends.meanings picture.now 20 y (map legends.explained_as meanings.now))) }
 {
+    let mut x = 20;
     for meaning in meanings {
-        put_meaning(out, alloc, *meaning)?;
+        if !occurs(picture, meaning.key) {
+            continue;
+        }
+        put_meaning(out, alloc, x, y, *meaning)?;
+        x += u64::from(meaning.width);
     }
     Ok(())
 }

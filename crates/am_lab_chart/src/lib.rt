@@ -4,6 +4,7 @@
 mod bars;
 mod captions;
 mod drawing;
+mod known;
 mod lanes;
 mod legends;
 mod rows;

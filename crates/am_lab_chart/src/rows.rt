@@ -7,14 +7,14 @@ ghost use Rattle.am_lab_chart.specs.Rows as rows;
 ghost use Rattle.am_lab_xml.specs.Trees.{numbered, printed};
 ghost use Rattle.am_office_text.specs.Pieces.{word_of};
 
-use crate::captions::{put_caption, put_sign};
+use crate::captions::{put_caption, put_holding, put_sign};
 use am_lab_picture::layout::{
     Ending, Link, Spot, class_of, ending_dashes, ending_sign, fate_class, fate_sign, has_text,
     head_of, inner_of, label_of, link_of, sign_of, spot_of, x_of_end, x_of_interface, y_of,
 };
 use am_lab_picture::{Named, Picture, Row};
 use am_lab_xml::Attribute::{Number, Word};
-use am_lab_xml::{put_break, put_close, put_empty, put_open, put_text};
+use am_lab_xml::{put_break, put_close, put_empty, put_open};
 use am_names::NoMemory;
 use am_office_entries::{Entry, Outcome};
 use am_office_text::entry_lines::entry_line;
@@ -32,16 +32,6 @@ pub(crate) fn line_of(alloc: Global, entry: &Entry) -> Result<Vec<u8>, NoMemory>
     Ok(text)
 }
 
-#[tactic(auto, using(std::proofs::Common::append_assoc), unfolding(crate::specs::Rows::title))]
-fn put_title(out: &mut Vec<u8>, line: &[u8], row: Row) -> Result<(), AllocError>
-    requires { line.now ≡ lines.printed row.entry }
-    ensures { OnOk result (out.new.items ≡ out.old.items ++ printed (rows.title row)) }
-{
-    put_open(out, "title", &[])?;
-    put_text(out, line)?;
-    put_close(out, "title")
-}
-
 #[tactic(auto, unfolding(crate::specs::Rows::line_number))]
 fn put_line_number(out: &mut Vec<u8>, alloc: Global, y: u64, line: u32) -> Result<(), AllocError>
     requires { y ≤ 400000 }
@@ -55,30 +45,24 @@ fn put_line_number(out: &mut Vec<u8>, alloc: Global, y: u64, line: u32) -> Resul
             Number("y", y + 4),
             Word("class", "line-number"),
         ],
-        "",
-        count(line),
+        &[count(line)],
     )
 }
 
-#[tactic(auto, using(std::proofs::Common::append_assoc), unfolding(crate::specs::Rows::line_text))]
+#[tactic(auto, unfolding(crate::specs::Rows::line_text))]
 fn put_line_text(out: &mut Vec<u8>, line: &[u8], y: u64, row: Row) -> Result<(), AllocError>
     requires line { line.now ≡ lines.printed row.entry }
     requires low { y ≤ 400000 }
     ensures { OnOk result (out.new.items ≡ out.old.items ++ printed (rows.line_text y row)) }
 {
-    put_open(
-        out,
-        "text",
-        &[
-            Number("x", 62),
-            Number("y", y + 4),
-            Word("class", class_of(row.about)),
-            Word("font-family", "monospace"),
-            Word("font-size", "11"),
-        ],
-    )?;
-    put_text(out, line)?;
-    put_close(out, "text")
+    let given = [
+        Number("x", 62),
+        Number("y", y + 4),
+        Word("class", class_of(row.about)),
+        Word("font-family", "monospace"),
+        Word("font-size", "11"),
+    ];
+    put_holding(out, "text", &given, line)
 }
 
 #[tactic(auto, using(std::proofs::Common::append_assoc))]
@@ -209,7 +193,7 @@ fn put_inner_text(
     ensures { OnOk result (out.new.items ≡ out.old.items ++ printed (rows.inner_text x y (word_of text))) }
 {
     let given = [Number("x", x), Number("y", y + 3), Word("class", "in-sign")];
-    put_caption(out, alloc, &given, "", text)
+    put_caption(out, alloc, &given, &[text])
 }
 
 fn put_inner(
@@ -273,11 +257,11 @@ fn put_label_at(
     let given = [
         Number("x", x),
         Number("y", y),
-        Word("dy", "-2"),
+        Word("dy", "9"),
         Word("class", class),
         Word("text-anchor", anchor),
     ];
-    put_caption(out, alloc, &given, "", text)
+    put_caption(out, alloc, &given, &[text])
 }
 
 fn put_label_text(
@@ -393,7 +377,7 @@ fn put_row_head(
     ensures { OnOk result (out.new.items ≡ out.old.items ++ printed (rows.row_head picture.now y line row)) }
 {
     let text = line_of(alloc, &row.entry)?;
-    put_title(out, &text, row)?;
+    put_holding(out, "title", &[], &text)?;
     put_fate(out, picture, y, row.about)?;
     put_texts(out, alloc, picture, &text, y, line, row)?;
     Ok(())

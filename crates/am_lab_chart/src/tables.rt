@@ -6,6 +6,7 @@ ghost use Rattle.am_lab_chart.specs.Tables as tables;
 ghost use Rattle.am_lab_xml.specs.Trees.{each, printed};
 
 use crate::legends::{Head, Meaning, Shape, put_arrow_heads, put_meanings, put_shapes};
+use am_lab_picture::Picture;
 use std::alloc::{AllocError, Global};
 
 /// The style sheet: colours that colour-blind people can tell, by class.
@@ -15,8 +16,9 @@ pub const STYLE: &str = "\
     rect{fill:currentColor;stroke:#777;stroke-width:.5}\
     .area{fill:currentColor;stroke:#fff;stroke-width:.7}.page,.band{stroke:none}.page{color:#fff}\
     .band{color:#f3f5f8}.lane{color:#9aa5ae;stroke-dasharray:1 2;stroke-width:1}\
-    .head,.in-frame,.in-sign{text-anchor:middle}.head{font-weight:bold}.in-sign{stroke:none;color:#fff}\
-    .line-number{color:#888;text-anchor:end;stroke:none}.plain,.in-frame,.head{color:#444}\
+    .head,.again,.in-frame,.in-sign{text-anchor:middle}.head,.again{font-weight:bold}.in-sign{stroke:none;color:#fff}\
+    .in-frame{pointer-events:none}\
+    .line-number{color:#888;text-anchor:end;stroke:none}.plain,.in-frame,.head,.again{color:#444}\
     .ran{color:#0067a5}.returned{color:#c23b00}.unknown{color:#8e3b96}.unknown-but-ran{color:#8a6500}\
     .pending{color:#66717c}.frame{color:#f2cf66}.draining{color:#d98b00}.host,.direct{color:#dfe4e8}\
     .disk{color:#87929d}.records{color:#9cc3e6;stroke:none}.received{color:#dca6c8;stroke:none}";
@@ -272,351 +274,376 @@ pub(crate) fn put_heads(out: &mut Vec<u8>) -> Result<(), AllocError>
     )
 }
 
-/// Appends what the legend says of fates.
+/// Appends what the legend says of fates, as far as it occurs.
 #[tactic(auto, unfolding(crate::specs::Tables::fate_meanings))]
-pub(crate) fn put_fate_meanings(out: &mut Vec<u8>, alloc: Global) -> Result<(), AllocError>
-    ensures { OnOk result (out.new.items ≡ out.old.items ++ printed (each legends.meaning tables.fate_meanings)) }
+pub(crate) fn put_fate_meanings(
+    out: &mut Vec<u8>,
+    alloc: Global,
+    picture: &Picture,
+) -> Result<(), AllocError>
+    ensures { OnOk result (out.new.items ≡ out.old.items ++ printed (legends.meanings picture.now 20 18 tables.fate_meanings)) }
 {
     put_meanings(
         out,
         alloc,
+        picture,
+        18,
         &[
             Meaning {
+                key: "ran",
                 sign: "#fate-ran",
                 class: "ran",
                 dashes: "none",
-                x: 20,
-                y: 18,
+                width: 49,
                 text: "ran",
             },
             Meaning {
+                key: "returned",
                 sign: "#fate-returned",
                 class: "returned",
                 dashes: "none",
-                x: 69,
-                y: 18,
+                width: 75,
                 text: "returned",
             },
             Meaning {
+                key: "unknown",
                 sign: "#fate-unknown",
                 class: "unknown",
                 dashes: "none",
-                x: 144,
-                y: 18,
+                width: 70,
                 text: "unknown",
             },
             Meaning {
+                key: "unknown-but-ran",
                 sign: "#fate-unknown-but-ran",
                 class: "unknown-but-ran",
                 dashes: "none",
-                x: 214,
-                y: 18,
+                width: 117,
                 text: "unknown, but ran",
             },
             Meaning {
+                key: "pending",
                 sign: "#fate-pending",
                 class: "pending",
                 dashes: "none",
-                x: 331,
-                y: 18,
+                width: 70,
                 text: "pending",
             },
             Meaning {
+                key: "plain",
                 sign: "#no-fate",
                 class: "plain",
                 dashes: "none",
-                x: 401,
-                y: 18,
+                width: 226,
                 text: "no message, or none that was accepted",
             },
         ],
     )
 }
 
-/// Appends what the legend says of bars.
+/// Appends what the legend says of bars, as far as it occurs.
 #[tactic(auto, unfolding(crate::specs::Tables::bar_meanings))]
-pub(crate) fn put_bar_meanings(out: &mut Vec<u8>, alloc: Global) -> Result<(), AllocError>
-    ensures { OnOk result (out.new.items ≡ out.old.items ++ printed (each legends.meaning tables.bar_meanings)) }
+pub(crate) fn put_bar_meanings(
+    out: &mut Vec<u8>,
+    alloc: Global,
+    picture: &Picture,
+) -> Result<(), AllocError>
+    ensures { OnOk result (out.new.items ≡ out.old.items ++ printed (legends.meanings picture.now 20 42 tables.bar_meanings)) }
 {
     put_meanings(
         out,
         alloc,
+        picture,
+        42,
         &[
             Meaning {
+                key: "frame",
                 sign: "#box",
                 class: "frame",
                 dashes: "none",
-                x: 20,
-                y: 42,
+                width: 153,
                 text: "in a frame (its number)",
             },
             Meaning {
+                key: "draining",
                 sign: "#box",
                 class: "draining",
                 dashes: "none",
-                x: 173,
-                y: 42,
+                width: 75,
                 text: "draining",
             },
             Meaning {
+                key: "host",
                 sign: "#box",
                 class: "host",
                 dashes: "none",
-                x: 248,
-                y: 42,
+                width: 91,
                 text: "on the host",
             },
             Meaning {
+                key: "disk",
                 sign: "#box",
                 class: "disk",
                 dashes: "none",
-                x: 339,
-                y: 42,
+                width: 70,
                 text: "on disk",
             },
             Meaning {
+                key: "direct",
+                sign: "#box",
+                class: "direct",
+                dashes: "none",
+                width: 143,
+                text: "on the direct network",
+            },
+            Meaning {
+                key: "records",
                 sign: "#box",
                 class: "records",
                 dashes: "none",
-                x: 409,
-                y: 42,
+                width: 200,
                 text: "records of requests that are out",
             },
             Meaning {
+                key: "received",
                 sign: "#box",
                 class: "received",
                 dashes: "none",
-                x: 609,
-                y: 42,
+                width: 153,
                 text: "received and not polled",
             },
         ],
     )
 }
 
-/// Appends what the legend says of the ways of packets.
-#[tactic(auto, unfolding(crate::specs::Tables::way_meanings))]
-pub(crate) fn put_way_meanings(out: &mut Vec<u8>, alloc: Global) -> Result<(), AllocError>
-    ensures { OnOk result (out.new.items ≡ out.old.items ++ printed (each legends.meaning tables.way_meanings)) }
-{
-    put_meanings(
-        out,
-        alloc,
-        &[
-            Meaning {
-                sign: "#way",
-                class: "plain",
-                dashes: "none",
-                x: 26,
-                y: 66,
-                text: "request",
-            },
-            Meaning {
-                sign: "#way",
-                class: "plain",
-                dashes: "9 3",
-                x: 102,
-                y: 66,
-                text: "reply",
-            },
-            Meaning {
-                sign: "#way",
-                class: "plain",
-                dashes: "2 3",
-                x: 168,
-                y: 66,
-                text: "answer",
-            },
-            Meaning {
-                sign: "#lost-left",
-                class: "plain",
-                dashes: "none",
-                x: 253,
-                y: 66,
-                text: "never received",
-            },
-            Meaning {
-                sign: "#stopped",
-                class: "plain",
-                dashes: "none",
-                x: 359,
-                y: 66,
-                text: "refused there",
-            },
-        ],
-    )
-}
-
-/// Appends what the legend says of what a source is told.
-#[tactic(auto, unfolding(crate::specs::Tables::told_meanings))]
-pub(crate) fn put_told_meanings(out: &mut Vec<u8>, alloc: Global) -> Result<(), AllocError>
-    ensures { OnOk result (out.new.items ≡ out.old.items ++ printed (each legends.meaning tables.told_meanings)) }
-{
-    put_meanings(
-        out,
-        alloc,
-        &[
-            Meaning {
-                sign: "#settled",
-                class: "plain",
-                dashes: "none",
-                x: 460,
-                y: 66,
-                text: "accepted there",
-            },
-            Meaning {
-                sign: "#requeued",
-                class: "plain",
-                dashes: "none",
-                x: 566,
-                y: 66,
-                text: "put back",
-            },
-            Meaning {
-                sign: "#came-back",
-                class: "plain",
-                dashes: "none",
-                x: 641,
-                y: 66,
-                text: "returned",
-            },
-            Meaning {
-                sign: "#timed-out",
-                class: "plain",
-                dashes: "none",
-                x: 716,
-                y: 66,
-                text: "unknown",
-            },
-        ],
-    )
-}
-
-/// Appends what the legend says of calls.
+/// Appends what the legend says of calls, as far as it occurs.
 #[tactic(auto, unfolding(crate::specs::Tables::call_meanings))]
-pub(crate) fn put_call_meanings(out: &mut Vec<u8>, alloc: Global) -> Result<(), AllocError>
-    ensures { OnOk result (out.new.items ≡ out.old.items ++ printed (each legends.meaning tables.call_meanings)) }
+pub(crate) fn put_call_meanings(
+    out: &mut Vec<u8>,
+    alloc: Global,
+    picture: &Picture,
+) -> Result<(), AllocError>
+    ensures { OnOk result (out.new.items ≡ out.old.items ++ printed (legends.meanings picture.now 20 66 tables.call_meanings)) }
 {
     put_meanings(
         out,
         alloc,
+        picture,
+        66,
         &[
             Meaning {
+                key: "#request",
                 sign: "#request",
                 class: "plain",
                 dashes: "none",
-                x: 20,
-                y: 90,
+                width: 71,
                 text: "request",
             },
             Meaning {
+                key: "#run",
                 sign: "#run",
                 class: "plain",
                 dashes: "none",
-                x: 91,
-                y: 90,
+                width: 122,
                 text: "run (its handler)",
             },
             Meaning {
+                key: "#notice",
                 sign: "#notice",
                 class: "plain",
                 dashes: "none",
-                x: 213,
-                y: 90,
+                width: 65,
                 text: "notice",
             },
             Meaning {
+                key: "#refused",
                 sign: "#refused",
                 class: "plain",
                 dashes: "none",
-                x: 278,
-                y: 90,
+                width: 98,
                 text: "refused call",
             },
             Meaning {
+                key: "#blocked",
                 sign: "#blocked",
                 class: "plain",
                 dashes: "none",
-                x: 376,
-                y: 90,
+                width: 132,
                 text: "no room for a reply",
             },
             Meaning {
+                key: "#given-up",
                 sign: "#given-up",
                 class: "plain",
                 dashes: "none",
-                x: 508,
-                y: 90,
+                width: 78,
                 text: "given up",
             },
             Meaning {
+                key: "#closed",
                 sign: "#closed",
                 class: "plain",
                 dashes: "none",
-                x: 586,
-                y: 90,
+                width: 65,
                 text: "closed",
             },
         ],
     )
 }
 
-/// Appends what the legend says of other events.
+/// Appends what the legend says of other events, as far as it occurs.
 #[tactic(auto, unfolding(crate::specs::Tables::event_meanings))]
-pub(crate) fn put_event_meanings(out: &mut Vec<u8>, alloc: Global) -> Result<(), AllocError>
-    ensures { OnOk result (out.new.items ≡ out.old.items ++ printed (each legends.meaning tables.event_meanings)) }
+pub(crate) fn put_event_meanings(
+    out: &mut Vec<u8>,
+    alloc: Global,
+    picture: &Picture,
+) -> Result<(), AllocError>
+    ensures { OnOk result (out.new.items ≡ out.old.items ++ printed (legends.meanings picture.now 20 90 tables.event_meanings)) }
 {
     put_meanings(
         out,
         alloc,
+        picture,
+        90,
         &[
             Meaning {
+                key: "#done",
                 sign: "#done",
                 class: "plain",
                 dashes: "none",
-                x: 20,
-                y: 114,
+                width: 54,
                 text: "done",
             },
             Meaning {
+                key: "#nothing",
                 sign: "#nothing",
                 class: "plain",
                 dashes: "none",
-                x: 74,
-                y: 114,
+                width: 131,
                 text: "nothing came of it",
             },
             Meaning {
+                key: "#moved",
                 sign: "#moved",
                 class: "plain",
                 dashes: "none",
-                x: 205,
-                y: 114,
+                width: 64,
                 text: "moved",
             },
             Meaning {
+                key: "#failed",
                 sign: "#failed",
                 class: "plain",
                 dashes: "none",
-                x: 269,
-                y: 114,
+                width: 101,
                 text: "device failed",
             },
             Meaning {
+                key: "#time-out",
                 sign: "#time-out",
                 class: "plain",
                 dashes: "none",
-                x: 370,
-                y: 114,
+                width: 75,
                 text: "time-out",
             },
             Meaning {
+                key: "#wanted",
                 sign: "#wanted",
                 class: "plain",
                 dashes: "none",
-                x: 445,
-                y: 114,
+                width: 65,
                 text: "wanted",
+            },
+        ],
+    )
+}
+
+/// Appends what the legend says of packets, and of what their sources are told, as far as it occurs.
+#[tactic(auto, unfolding(crate::specs::Tables::way_meanings))]
+pub(crate) fn put_way_meanings(
+    out: &mut Vec<u8>,
+    alloc: Global,
+    picture: &Picture,
+) -> Result<(), AllocError>
+    ensures { OnOk result (out.new.items ≡ out.old.items ++ printed (legends.meanings picture.now 20 114 tables.way_meanings)) }
+{
+    put_meanings(
+        out,
+        alloc,
+        picture,
+        114,
+        &[
+            Meaning {
+                key: "none",
+                sign: "#way",
+                class: "plain",
+                dashes: "none",
+                width: 90,
+                text: "request",
+            },
+            Meaning {
+                key: "9 3",
+                sign: "#way",
+                class: "plain",
+                dashes: "9 3",
+                width: 80,
+                text: "reply",
+            },
+            Meaning {
+                key: "2 3",
+                sign: "#way",
+                class: "plain",
+                dashes: "2 3",
+                width: 85,
+                text: "answer",
+            },
+            Meaning {
+                key: "#lost-left",
+                sign: "#lost-left",
+                class: "plain",
+                dashes: "none",
+                width: 106,
+                text: "never received",
+            },
+            Meaning {
+                key: "#stopped",
+                sign: "#stopped",
+                class: "plain",
+                dashes: "none",
+                width: 101,
+                text: "refused there",
+            },
+            Meaning {
+                key: "#settled",
+                sign: "#settled",
+                class: "plain",
+                dashes: "none",
+                width: 106,
+                text: "accepted there",
+            },
+            Meaning {
+                key: "#requeued",
+                sign: "#requeued",
+                class: "plain",
+                dashes: "none",
+                width: 75,
+                text: "put back",
+            },
+            Meaning {
+                key: "#came-back",
+                sign: "#came-back",
+                class: "plain",
+                dashes: "none",
+                width: 75,
+                text: "returned",
+            },
+            Meaning {
+                key: "#timed-out",
+                sign: "#timed-out",
+                class: "plain",
+                dashes: "none",
+                width: 70,
+                text: "unknown",
             },
         ],
     )

@@ -67,8 +67,10 @@ const bottom = TOP + unit * rows.length;
 const rowAtY = (y) => Math.min(rows.length - 1, Math.max(0, Math.round((y - TOP - half) / unit)));
 const lanes = [];
 
+// what stands in a head, behind its title
+const headText = (text) => text.lastChild.data;
 const takeLane = (text) => {
-  const x = number(text, 'x'), words = text.textContent.split(' ');
+  const x = number(text, 'x'), words = headText(text).split(' ');
   const wide = words[0] === 'endpoint' ? LANE : INTERFACE;
   if (words[0] !== 'endpoint' && !/^i\d+$/.test(words[0])) return;
   lanes.push({ endpoint: words[0] === 'endpoint' ? words[1] : null, x, left: x - wide, right: x + wide, idle: true, heads: [] });
@@ -189,11 +191,11 @@ for (const band of bands) {
 }
 for (const text of all('text.head')) {
   const copy = headsPicture.appendChild(text.cloneNode(true));
-  const x = number(text, 'x'), band = text.textContent.startsWith('node ') ? bands.find((it) => it.left <= x && x <= it.right) : null;
+  const x = number(text, 'x'), name = headText(text), band = name.startsWith('node ') ? bands.find((it) => it.left <= x && x <= it.right) : null;
   const lane = band ? null : lanes.find((it) => it.left < x && x < it.right);
-  const name = text.textContent, folded = lanes.filter((it) => it.idle && it.endpoint !== null && it.node === band?.node).length;
+  const folded = lanes.filter((it) => it.idle && it.endpoint !== null && it.node === band?.node).length;
   headMovers.push(() => {
-    if (folded) copy.textContent = state.lanes ? `${name} (${folded} idle)` : name;
+    if (folded) copy.lastChild.data = state.lanes ? `${name} (${folded} idle)` : name;
     copy.setAttribute('x', band ? (placeX(band.left) + placeX(band.right)) / 2 : placeX(x));
     copy.classList.toggle('folded', Boolean(lane?.idle && state.lanes));
   });
@@ -496,15 +498,7 @@ const onPicture = (event) => {
   if (way) { select(way.serial, way.from, { reveal: false }); return; }
   if (rows.length) selectRow(group < 0 ? rowAtTop(spot.y) : group, { reveal: false });
 };
-const onMove = (event) => {
-  placeChosen(hover, rows.length ? rowAtTop(spotOf(event).y) : null);
-  const way = wayOf.get(event.target);
-  if (!way || event.target.firstChild) return;
-  const { packet } = entries[way.from], title = drawn('title');
-  const behind = way.to === null ? `line ${entries[way.from].line}, never received` : `line ${entries[way.from].line} to ${entries[way.to].line}`;
-  title.textContent = `${way.serial ?? ''} packet ${packet?.number}, ${packet?.from} to ${packet?.to}, ${behind}`;
-  event.target.append(title);
-};
+const onMove = (event) => placeChosen(hover, rows.length ? rowAtTop(spotOf(event).y) : null);
 
 // ---- printing: the picture as it was drawn
 

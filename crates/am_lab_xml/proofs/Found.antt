@@ -15,7 +15,7 @@ use Rattle.am_lab_xml.proofs.Bytes.{of_written, escape_is_read}
 abbrev no_tag : ℕ → Bool
 no_tag b = not (eqb b 60)
 
-abbrev has_no_tag : List ℕ → Bool
+abbrev pub has_no_tag : List ℕ → Bool
 has_no_tag bytes = list_all no_tag bytes
 
 Writes : ℕ → List ℕ → Type 0
@@ -28,7 +28,7 @@ writes : (b : ℕ) → Writes b (escaped_byte b)
 unfolding Writes
 writes b = of_written Writes refl refl refl refl refl refl plain_begins_none (λ c no_byte. refl) b
 
-escaped_begins_none : (text : List ℕ) → has_no_tag (escaped text) ≡ true
+pub escaped_begins_none : (text : List ℕ) → has_no_tag (escaped text) ≡ true
 unfolding Writes
 escaped_begins_none [] = refl
 escaped_begins_none (b ∷ text) = all_of_both no_tag (escaped_byte b) (escaped text) (writes b) (escaped_begins_none text)
@@ -67,16 +67,10 @@ attributes_begin_none (a ∷ given) h =
     all_of_both no_tag (attribute a) (attributes given) (attribute_begins_none a (first (is_name a.name) other front))
     (attributes_begin_none given (second (is_name a.name && other) (are_names names) h))
 
-skip : (name text rest : List ℕ) → has_no_tag text ≡ true → texts_in name (text ++ rest) ≡ texts_in name rest
-skip name [] rest h = refl
-skip name (b ∷ text) rest h =
-    let none : eqb b 60 ≡ false = not_so (eqb b 60) (first (no_tag b) (has_no_tag text) h) in
-    rw none (skip name text rest (second (no_tag b) (has_no_tag text) h))
-
 -- ---- tags
 
 -- the bytes of another name, or of one that goes on, are no tag of a name
-begins_name : (name n : List ℕ) (d : ℕ) (more : List ℕ) → list_all is_name_byte name ≡ true → list_all is_name_byte n ≡ true → is_name_byte d ≡ false →
+pub begins_name : (name n : List ℕ) (d : ℕ) (more : List ℕ) → list_all is_name_byte name ≡ true → list_all is_name_byte n ≡ true → is_name_byte d ≡ false →
     begins (name ++ codes ">") (n ++ d ∷ more) ≡ (bytes_eq n name && eqb d 62)
 begins_name [] [] d more h k ends = and_true (eqb d 62)
 begins_name [] (b ∷ n) d more h k ends = rw (apart is_name_byte b 62 (first (is_name_byte b) (list_all is_name_byte n) k) refl) refl
@@ -88,7 +82,7 @@ begins_name (a ∷ name) (b ∷ n) d more h k ends =
     ∙ and_assoc (eqb b a) (bytes_eq n name) (eqb d 62)
 
 -- only the tag of this name with no attributes begins so
-opens : (name n : List ℕ) (given : List Named) (d : ℕ) (more : List ℕ) → is_name name ≡ true → is_name n ≡ true → is_name_byte d ≡ false →
+pub opens : (name n : List ℕ) (given : List Named) (d : ℕ) (more : List ℕ) → is_name name ≡ true → is_name n ≡ true → is_name_byte d ≡ false →
     begins (name ++ codes ">") (n ++ (attributes given ++ d ∷ more)) ≡ (is_bare name n given && eqb d 62)
 unfolding attribute
 opens name n [] d more h k ends = begins_name name n d more (bytes_of_name name h) (bytes_of_name n k) ends
@@ -97,28 +91,59 @@ opens name n (a ∷ given) d more h k ends =
     refl
     ∙ and_false (bytes_eq n name)
 
-passed : (name bytes : List ℕ) → begins (name ++ codes ">") bytes ≡ false → texts_in name (60 ∷ bytes) ≡ texts_in name bytes
-passed name bytes h = rw h refl
-
-closing_passed : (name n rest : List ℕ) → is_name name ≡ true → is_name n ≡ true → texts_in name (closing n ++ rest) ≡ texts_in name rest
-closing_passed name n rest h k =
-    passed name ((47 ∷ n ++ codes ">") ++ rest) (begins_name name [] 47 ((n ++ codes ">") ++ rest) (bytes_of_name name h) refl refl
-    ∙ and_false (bytes_eq [] name))
-    ∙ skip name (47 ∷ n ++ codes ">") rest (all_of_both no_tag (47 ∷ n) (codes ">") (name_begins_none n k) refl)
-
-laid : (n given x inside c rest : List ℕ) → ((((n ++ given) ++ x) ++ inside) ++ c) ++ rest ≡ n ++ (given ++ (x ++ (inside ++ (c ++ rest))))
+pub laid : (n given x inside c rest : List ℕ) → ((((n ++ given) ++ x) ++ inside) ++ c) ++ rest ≡ n ++ (given ++ (x ++ (inside ++ (c ++ rest))))
 laid n given x inside c rest = simp append_assoc
 
-laid_empty : (n given x rest : List ℕ) → ((n ++ given) ++ x) ++ rest ≡ n ++ (given ++ (x ++ rest))
+pub laid_empty : (n given x rest : List ℕ) → ((n ++ given) ++ x) ++ rest ≡ n ++ (given ++ (x ++ rest))
 laid_empty n given x rest = simp append_assoc
 
-empty_passed : (name n : List ℕ) (given : List Named) (rest : List ℕ) → is_name name ≡ true → is_name n ≡ true → are_names (map name_of given) ≡ true →
-    texts_in name ((codes "<" ++ n ++ attributes given ++ codes "/>") ++ rest) ≡ texts_in name rest
-empty_passed name n given rest h k names =
-    ap (λ (t : List ℕ). texts_in name (60 ∷ t)) (laid_empty n (attributes given) (codes "/>") rest)
-    ∙ passed name (n ++ (attributes given ++ 47 ∷ 62 ∷ rest)) (opens name n given 47 (62 ∷ rest) h k refl ∙ and_false (is_bare name n given))
-    ∙ skip name n (attributes given ++ 47 ∷ 62 ∷ rest) (name_begins_none n k)
-    ∙ skip name (attributes given) (47 ∷ 62 ∷ rest) (attributes_begin_none given names)
+-- what stands behind the `<` of an element
+unfoldable pub spread : List ℕ → List Named → List ℕ → List ℕ → List ℕ
+spread n given inside rest = n ++ (attributes given ++ 62 ∷ (inside ++ (closing n ++ rest)))
+
+-- A reader who goes over the bytes from the left, and finds nothing where no tag begins, nor at a tag that isn't that of a name with
+-- no attributes.
+module _ (name : List ℕ) (found : List ℕ → List (List ℕ)) (plain : (b : ℕ) (bytes : List ℕ) → eqb b 60 ≡ false → found (b ∷ bytes) ≡ found bytes)
+    (passed : (bytes : List ℕ) → begins (name ++ codes ">") bytes ≡ false → found (60 ∷ bytes) ≡ found bytes) where
+  pub skip : (text rest : List ℕ) → has_no_tag text ≡ true → found (text ++ rest) ≡ found rest
+  skip [] rest h = refl
+  skip (b ∷ text) rest h =
+      plain b (text ++ rest) (not_so (eqb b 60) (first (no_tag b) (has_no_tag text) h)) ∙ skip text rest (second (no_tag b) (has_no_tag text) h)
+
+  pub closing_passed : (n rest : List ℕ) → is_name name ≡ true → is_name n ≡ true → found (closing n ++ rest) ≡ found rest
+  closing_passed n rest h k =
+      passed ((47 ∷ n ++ codes ">") ++ rest) (begins_name name [] 47 ((n ++ codes ">") ++ rest) (bytes_of_name name h) refl refl
+      ∙ and_false (bytes_eq [] name))
+      ∙ skip (47 ∷ n ++ codes ">") rest (all_of_both no_tag (47 ∷ n) (codes ">") (name_begins_none n k) refl)
+
+  pub empty_passed : (n : List ℕ) (given : List Named) (rest : List ℕ) → is_name name ≡ true → is_name n ≡ true → are_names (map name_of given) ≡ true →
+      found ((codes "<" ++ n ++ attributes given ++ codes "/>") ++ rest) ≡ found rest
+  empty_passed n given rest h k names =
+      ap (λ (t : List ℕ). found (60 ∷ t)) (laid_empty n (attributes given) (codes "/>") rest)
+      ∙ passed (n ++ (attributes given ++ 47 ∷ 62 ∷ rest)) (opens name n given 47 (62 ∷ rest) h k refl ∙ and_false (is_bare name n given))
+      ∙ skip n (attributes given ++ 47 ∷ 62 ∷ rest) (name_begins_none n k)
+      ∙ skip (attributes given) (47 ∷ 62 ∷ rest) (attributes_begin_none given names)
+      ∙ skip (codes "/>") rest refl
+
+  pub behind_opening : (n : List ℕ) (given : List Named) (inside rest : List ℕ) → is_name n ≡ true → are_names (map name_of given) ≡ true →
+      found (spread n given inside rest) ≡ found (inside ++ (closing n ++ rest))
+  unfolding spread
+  behind_opening n given inside rest k names =
+      skip n (attributes given ++ 62 ∷ (inside ++ (closing n ++ rest))) (name_begins_none n k)
+      ∙ skip (attributes given) (62 ∷ (inside ++ (closing n ++ rest))) (attributes_begin_none given names)
+      ∙ plain 62 (inside ++ (closing n ++ rest)) refl
+
+  -- an element of another name, or with attributes
+  pub other_found : (n : List ℕ) (given : List Named) (inside : Content) (held : List (List ℕ)) (rest : List ℕ) → is_name name ≡ true → is_name n ≡ true →
+      are_names (map name_of given) ≡ true → is_bare name n given ≡ false → ((rest : List ℕ) → found (printed inside ++ rest) ≡ held ++ found rest) →
+      found (60 ∷ spread n given (printed inside) rest) ≡ held ++ found rest
+  unfolding spread
+  other_found n given inside held rest h k names other finds =
+      passed (spread n given (printed inside) rest) (opens name n given 62 (printed inside ++ (closing n ++ rest)) h k refl
+      ∙ and_true (is_bare name n given) ∙ other)
+      ∙ behind_opening n given (printed inside) rest k names
+      ∙ finds (closing n ++ rest)
+      ∙ ap (λ (t : List (List ℕ)). held ++ t) (closing_passed n rest h k)
 
 -- ---- the text of an element
 
@@ -128,12 +153,12 @@ behind_name (b ∷ n) more h =
     rw (apart is_name_byte b 62 (first (is_name_byte b) (list_all is_name_byte n) h) refl)
     (behind_name n more (second (is_name_byte b) (list_all is_name_byte n) h))
 
-up_to : (text more : List ℕ) → has_no_tag text ≡ true → up_to_tag (text ++ 60 ∷ more) ≡ text
+pub up_to : (text more : List ℕ) → has_no_tag text ≡ true → up_to_tag (text ++ 60 ∷ more) ≡ text
 up_to [] more h = refl
 up_to (b ∷ text) more h =
     rw (not_so (eqb b 60) (first (no_tag b) (has_no_tag text) h)) (ap (λ (t : List ℕ). b ∷ t) (up_to text more (second (no_tag b) (has_no_tag text) h)))
 
-text_begins_none : (inside : Content) → holds_text inside ≡ true → has_no_tag (printed inside) ≡ true
+pub text_begins_none : (inside : Content) → holds_text inside ≡ true → has_no_tag (printed inside) ≡ true
 text_begins_none (Contents.Text text) h = escaped_begins_none text
 text_begins_none Contents.Nothing h = cc
 text_begins_none Contents.Break h = cc
@@ -141,7 +166,7 @@ text_begins_none (Contents.Empty n given) h = cc
 text_begins_none (Contents.Element n given inside) h = cc
 text_begins_none (Contents.Both a b) h = cc
 
-text_is_read : (inside : Content) → holds_text inside ≡ true → unescaped (printed inside) ≡ text_of inside
+pub text_is_read : (inside : Content) → holds_text inside ≡ true → unescaped (printed inside) ≡ text_of inside
 text_is_read (Contents.Text text) h = escape_is_read text h
 text_is_read Contents.Nothing h = cc
 text_is_read Contents.Break h = cc
@@ -153,34 +178,18 @@ text_is_read (Contents.Both a b) h = cc
 Finds : List ℕ → Content → Type 0
 Finds name content = (rest : List ℕ) → texts_in name (printed content ++ rest) ≡ texts name content ++ texts_in name rest
 
-spread : List ℕ → List ℕ → List Named → List ℕ → List ℕ → List ℕ
-spread name n given inside rest = n ++ (attributes given ++ 62 ∷ (inside ++ (closing n ++ rest)))
+byte_passed : (name : List ℕ) (b : ℕ) (bytes : List ℕ) → eqb b 60 ≡ false → texts_in name (b ∷ bytes) ≡ texts_in name bytes
+byte_passed name b bytes h = rw h refl
 
-behind_opening : (name n : List ℕ) (given : List Named) (inside rest : List ℕ) → is_name n ≡ true → are_names (map name_of given) ≡ true →
-    texts_in name (spread name n given inside rest) ≡ texts_in name (inside ++ (closing n ++ rest))
-unfolding spread
-behind_opening name n given inside rest k names =
-    skip name n (attributes given ++ 62 ∷ (inside ++ (closing n ++ rest))) (name_begins_none n k)
-    ∙ skip name (attributes given) (62 ∷ (inside ++ (closing n ++ rest))) (attributes_begin_none given names)
-
--- an element of another name, or with attributes
-other_found : (name n : List ℕ) (given : List Named) (inside : Content) (rest : List ℕ) → is_name name ≡ true → is_name n ≡ true →
-    are_names (map name_of given) ≡ true → is_bare name n given ≡ false → Finds name inside →
-    texts_in name (60 ∷ spread name n given (printed inside) rest) ≡ texts name inside ++ texts_in name rest
-unfolding spread Finds
-other_found name n given inside rest h k names other finds =
-    passed name (spread name n given (printed inside) rest) (opens name n given 62 (printed inside ++ (closing n ++ rest)) h k refl
-    ∙ and_true (is_bare name n given) ∙ other)
-    ∙ behind_opening name n given (printed inside) rest k names
-    ∙ finds (closing n ++ rest)
-    ∙ ap (λ (t : List (List ℕ)). texts name inside ++ t) (closing_passed name n rest h k)
+tag_passed : (name bytes : List ℕ) → begins (name ++ codes ">") bytes ≡ false → texts_in name (60 ∷ bytes) ≡ texts_in name bytes
+tag_passed name bytes h = rw h refl
 
 taken : (name bytes : List ℕ) → begins (name ++ codes ">") bytes ≡ true → texts_in name (60 ∷ bytes) ≡ unescaped (behind_tag bytes) ∷ texts_in name bytes
 taken name bytes h = rw h refl
 
 -- an element of this name with no attributes
 own_found : (name n : List ℕ) (inside : Content) (rest : List ℕ) → is_name name ≡ true → is_name n ≡ true → bytes_eq n name ≡ true → holds_text inside ≡ true →
-    texts_in name (60 ∷ spread name n [] (printed inside) rest) ≡ text_of inside ∷ texts_in name rest
+    texts_in name (60 ∷ spread n [] (printed inside) rest) ≡ text_of inside ∷ texts_in name rest
 unfolding spread
 own_found name n inside rest h k same holds =
     let more : List ℕ = printed inside ++ (closing n ++ rest) in
@@ -190,16 +199,19 @@ own_found name n inside rest h k same holds =
     taken name (n ++ 62 ∷ more) (opens name n [] 62 more h k refl ∙ and_true (bytes_eq n name) ∙ same)
     ∙ ap (λ (t : List ℕ). t ∷ texts_in name (n ++ 62 ∷ more)) read
     ∙ ap (λ (t : List (List ℕ)). text_of inside ∷ t)
-    (behind_opening name n [] (printed inside) rest k refl ∙ skip name (printed inside) (closing n ++ rest) (text_begins_none inside holds)
-    ∙ closing_passed name n rest h k)
+    (behind_opening name (texts_in name) (byte_passed name) (tag_passed name) n [] (printed inside) rest k refl
+    ∙ skip name (texts_in name) (byte_passed name) (tag_passed name) (printed inside) (closing n ++ rest) (text_begins_none inside holds)
+    ∙ closing_passed name (texts_in name) (byte_passed name) (tag_passed name) n rest h k)
 
 by_bare : (name n : List ℕ) (given : List Named) (inside : Content) (rest : List ℕ) → is_name name ≡ true → is_name n ≡ true →
     are_names (map name_of given) ≡ true → are_texts name (Contents.Element n given inside) ≡ true → (are_texts name inside ≡ true → Finds name inside) →
-    (bare : Bool) → is_bare name n given ≡ bare → texts_in name (60 ∷ spread name n given (printed inside) rest) ≡ texts name
+    (bare : Bool) → is_bare name n given ≡ bare → texts_in name (60 ∷ spread n given (printed inside) rest) ≡ texts name
     (Contents.Element n given inside) ++ texts_in name rest
+unfolding Finds
 by_bare name n [] inside rest h k names are finds true e = rw e (own_found name n inside rest h k e (rw e at are))
 by_bare name n (a ∷ given) inside rest h k names are finds true e = cc
-by_bare name n given inside rest h k names are finds false e = rw e (other_found name n given inside rest h k names e (finds (rw e at are)))
+by_bare name n given inside rest h k names are finds false e =
+    rw e (other_found name (texts_in name) (byte_passed name) (tag_passed name) n given inside (texts name inside) rest h k names e (finds (rw e at are)))
 
 element_found : (name n : List ℕ) (given : List Named) (inside : Content) → is_name name ≡ true → is_sound (Contents.Element n given inside) ≡ true →
     are_texts name (Contents.Element n given inside) ≡ true → (is_sound inside ≡ true → are_texts name inside ≡ true → Finds name inside) →
@@ -215,10 +227,11 @@ element_found name n given inside h sound are finds rest =
 finds : (name : List ℕ) → is_name name ≡ true → (content : Content) → is_sound content ≡ true → are_texts name content ≡ true → Finds name content
 unfolding Finds
 finds name h Contents.Nothing sound are rest = refl
-finds name h (Contents.Text text) sound are rest = skip name (escaped text) rest (escaped_begins_none text)
+finds name h (Contents.Text text) sound are rest =
+    skip name (texts_in name) (byte_passed name) (tag_passed name) (escaped text) rest (escaped_begins_none text)
 finds name h Contents.Break sound are rest = refl
 finds name h (Contents.Empty n given) sound are rest =
-    empty_passed name n given rest h (first (is_name n) (are_names (map name_of given)) sound) (second (is_name n) (are_names (map name_of given)) sound)
+    empty_passed name (texts_in name) (byte_passed name) (tag_passed name) n given rest h (first (is_name n) (are_names (map name_of given)) sound) (second (is_name n) (are_names (map name_of given)) sound)
 finds name h (Contents.Element n given inside) sound are rest = element_found name n given inside h sound are (finds name h inside) rest
 finds name h (Contents.Both a b) sound are rest =
     ap (texts_in name) (append_assoc (printed a) (printed b) rest)

@@ -3,3 +3,4 @@ pub mod Bytes
 pub mod Texts
 pub mod Formed
 pub mod Found
+pub mod Led

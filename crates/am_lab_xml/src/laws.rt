@@ -3,7 +3,7 @@
 ghost use Rattle.std.specs.Prelude.{◌≡◌, ℕ, List, true};
 ghost use Rattle.am_lab_xml.specs.Escaped.{escaped, is_text, unescaped};
 ghost use Rattle.am_lab_xml.specs.Grammar.{IsDocument};
-ghost use Rattle.am_lab_xml.specs.Reading.{are_texts, texts, texts_in};
+ghost use Rattle.am_lab_xml.specs.Reading.{are_led, are_texts, first_texts, first_texts_in, texts, texts_in};
 ghost use Rattle.am_lab_xml.specs.Trees.{Content, Named, is_name, is_sound, printed};
 ghost use Rattle.am_lab_xml.specs.Trees.{Content as Contents};
 
@@ -22,4 +22,10 @@ pub fn escapes_are_read()
 /// hold a text of printable ASCII and line feeds and nothing else.
 pub fn texts_are_read()
     ensures { (name : List ℕ) (content : Content) → is_name name ≡ true → is_sound content ≡ true → are_texts name content ≡ true → texts_in name (printed content) ≡ texts name content }
+{}
+
+/// The texts of the elements of a name with which those of another begin are found in order in what is printed, by the two
+/// tags alone, if these elements of the other name begin so, with a text of printable ASCII and line feeds and nothing else.
+pub fn first_texts_are_read()
+    ensures { (outer name : List ℕ) (content : Content) → is_name outer ≡ true → is_name name ≡ true → is_sound content ≡ true → are_led outer name content ≡ true → first_texts_in outer name (printed content) ≡ first_texts outer content }
 {}

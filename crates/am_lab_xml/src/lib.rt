@@ -10,5 +10,5 @@ mod laws;
 mod tags;
 
 pub use escaped::put_text;
-pub use laws::{documents_are_well_formed, escapes_are_read, texts_are_read};
+pub use laws::{documents_are_well_formed, escapes_are_read, first_texts_are_read, texts_are_read};
 pub use tags::{Attribute, Point, put_break, put_close, put_empty, put_number, put_open};

@@ -123,6 +123,7 @@ svg .dim { fill-opacity: .13; stroke-opacity: .13; marker-end: none; }
   #keys { display: none; }
 }
 @media (prefers-reduced-motion: no-preference) { #view.moving { scroll-behavior: smooth; } }
+@media screen { .ready #picture .again { display: none; } }
 @media print {
   :root { color-scheme: light; --back: #fff; --face: #000; }
   html, body, main { display: block; height: auto; }

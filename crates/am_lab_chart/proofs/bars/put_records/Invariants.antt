@@ -4,5 +4,5 @@ use Rattle.am_lab_chart.specs.Bars.{records}
 use Rattle.am_lab_chart.proofs.bars.put_records.Given as goal
 
 abbrev pub invariant-loop-span : goal.invariant-loop-span
-invariant-loop-span l = l.out.items ++ printed (each (records l.picture l.x) (drop l.span-index l.spans)) ≡ l.fn.out.items ++ printed
-    (each (records l.picture l.x) l.spans)
+invariant-loop-span l = l.out.items ++ printed (each (records l.picture l.x l.end) (drop l.span-index l.spans)) ≡ l.fn.out.items ++ printed
+    (each (records l.picture l.x l.end) l.spans)

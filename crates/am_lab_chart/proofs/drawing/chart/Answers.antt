@@ -1,4 +1,4 @@
-use Rattle.am_lab_chart.proofs.Read.{document_of, titles_of}
+use Rattle.am_lab_chart.proofs.Read.{document_of, rows_of, titles_of}
 use Rattle.am_lab_chart.proofs.drawing.chart.Goals as goal
 
 pub returns-clause-formed : goal.returns-clause-formed
@@ -6,3 +6,6 @@ returns-clause-formed c = document_of c.args.picture.now c.text_of.result c.text
 
 pub returns-clause-titles : goal.returns-clause-titles
 returns-clause-titles c = titles_of c.args.picture.now c.text_of.result c.text_of.ensures
+
+pub returns-clause-rows : goal.returns-clause-rows
+returns-clause-rows c = rows_of c.args.picture.now c.text_of.result c.text_of.ensures

@@ -1,0 +1,106 @@
+//! What occurs in a picture, by the words that the legend has for it.
+
+ghost use Rattle.std.specs.Prelude.{◌≡◌};
+ghost use Rattle.std.specs.List.{list_any};
+ghost use Rattle.am_lab_chart.specs.Known as known;
+
+use am_lab_picture::layout::{
+    Link, class_of, ending_sign, link_of, packet_dashes, place_class, sign_of,
+};
+use am_lab_picture::{Arrow, Cross, Lane, Picture, Residency, Row, Span};
+
+fn link_sign(to: Option<Link>) -> &'static str
+    ensures { result.now ≡ known.link_sign to }
+{
+    match to {
+        None => "",
+        Some(to) => ending_sign(to.ending),
+    }
+}
+
+fn is_in_row(key: &str, row: &Row) -> bool
+    ensures { result ≡ known.is_in_row key.now row.now }
+{
+    let (event, outcome) = (row.entry.event, row.entry.outcome);
+    class_of(row.about) == key
+        || sign_of(event, outcome) == key
+        || link_sign(link_of(event, outcome)) == key
+}
+
+fn is_in_arrow(key: &str, arrow: &Arrow) -> bool
+    ensures { result ≡ known.is_in_arrow key.now arrow.now }
+{
+    packet_dashes(arrow.packet) == key
+}
+
+fn is_in_cross(key: &str, cross: &Cross) -> bool
+    ensures { result ≡ known.is_in_cross key.now cross.now }
+{
+    packet_dashes(cross.packet) == key || "#lost-left" == key
+}
+
+fn is_at(key: &str, span: &Span<Residency>) -> bool
+    ensures { result ≡ known.is_at key.now span.now }
+{
+    place_class(span.value) == key
+}
+
+fn is_at_some(key: &str, spans: &[Span<Residency>]) -> bool
+    ensures { result ≡ list_any (known.is_at key.now) spans.now }
+{
+    spans.iter().any(|span| is_at(key, span))
+}
+
+fn has_level(spans: &[Span<u8>]) -> bool
+    ensures { result ≡ list_any known.is_some_level spans.now }
+{
+    spans.iter().any(|span| span.value != 0)
+}
+
+fn is_level(key: &str, name: &str, spans: &[Span<u8>]) -> bool
+    ensures { result ≡ known.is_level key.now name.now spans.now }
+{
+    name == key && has_level(spans)
+}
+
+fn is_in_lane(key: &str, lane: &Lane) -> bool
+    ensures { result ≡ known.is_in_lane key.now lane.now }
+{
+    is_at_some(key, &lane.residency)
+        || is_level(key, "records", &lane.records)
+        || is_level(key, "received", &lane.received)
+}
+
+fn is_in_rows(key: &str, rows: &[Row]) -> bool
+    ensures { result ≡ list_any (known.is_in_row key.now) rows.now }
+{
+    rows.iter().any(|row| is_in_row(key, row))
+}
+
+fn is_in_arrows(key: &str, arrows: &[Arrow]) -> bool
+    ensures { result ≡ list_any (known.is_in_arrow key.now) arrows.now }
+{
+    arrows.iter().any(|arrow| is_in_arrow(key, arrow))
+}
+
+fn is_in_crosses(key: &str, crosses: &[Cross]) -> bool
+    ensures { result ≡ list_any (known.is_in_cross key.now) crosses.now }
+{
+    crosses.iter().any(|cross| is_in_cross(key, cross))
+}
+
+fn is_in_lanes(key: &str, lanes: &[Lane]) -> bool
+    ensures { result ≡ list_any (known.is_in_lane key.now) lanes.now }
+{
+    lanes.iter().any(|lane| is_in_lane(key, lane))
+}
+
+/// Whether something that the legend has by this word occurs in the picture.
+pub(crate) fn occurs(picture: &Picture, key: &str) -> bool
+    ensures { result ≡ known.occurs picture.now key.now }
+{
+    is_in_rows(key, &picture.rows)
+        || is_in_arrows(key, &picture.arrows)
+        || is_in_crosses(key, &picture.crosses)
+        || is_in_lanes(key, &picture.lanes)
+}
