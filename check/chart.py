@@ -1,18 +1,41 @@
 #!/usr/bin/env python3
 """What `am2_lab chart` draws, against a second reading of the report's text: chart.py PROGRAM [SCENARIO REPORT]..
 
-For each pair of files, or for each of examples/ without any, the whole picture is drawn and read by Python's own XML parser. Its titles are to be
-the journal's lines; there is to be an arrow from the row that sends a packet to each row that receives it, and a cross in the row of each packet
-that is never received; and arrows, crosses and signs have the colour of the message's fate, the dashes of its kind, and are pale where nothing
-comes of them. Pictures with rows of text alone are read, those of at most 400 entries.
+For each pair of files, or for each of examples/ without any, the whole picture is drawn and read by Python's own XML parser. The titles of its rows
+are to be the journal's lines; there is to be an arrow from the row that sends a packet to each row that receives it, and a cross in the row of each
+packet that is never received; and arrows, crosses and signs have the colour of the message's fate, the dashes of its kind, and are pale where nothing
+comes of them. The bars are to be those of a second machine that makes the entries again. Heads, bars, arrows and crosses have the titles that they are
+to have, and the legend has each sign that occurs, once. Pictures with rows of text alone are read, those of at most 400 entries.
 """
 import pathlib
 import re
 import subprocess
 import sys
 import xml.etree.ElementTree as tree
+from itertools import groupby
 
-TOP, PITCH = 190, 18
+from scenario import tag_word
+from state import States
+
+TOP, PITCH, PAGE = 190, 18, 900
+BARS = "frame draining host disk direct records received".split()
+# the legend, line by line: the sign, its class, its dashes, and what it stands for
+LEGEND = [
+    *((f"#fate-{it}", it, "none", it) for it in ("ran", "returned", "unknown")),
+    ("#fate-unknown-but-ran", "unknown-but-ran", "none", "unknown, but ran"), ("#fate-pending", "pending", "none", "pending"),
+    ("#no-fate", "plain", "none", "no message, or none that was accepted"),
+    *(("#box", it, "none", text) for it, text in zip(BARS, (
+        "in a frame (its number)", "draining", "on the host", "on disk", "on the direct network", "records of requests that are out",
+        "received and not polled"))),
+    *((f"#{it}", "plain", "none", text) for it, text in (
+        ("request", "request"), ("run", "run (its handler)"), ("notice", "notice"), ("refused", "refused call"), ("blocked", "no room for a reply"),
+        ("given-up", "given up"), ("closed", "closed"), ("done", "done"), ("nothing", "nothing came of it"), ("moved", "moved"),
+        ("failed", "device failed"), ("time-out", "time-out"), ("wanted", "wanted"))),
+    *(("#way", "plain", dashes, text) for dashes, text in (("none", "request"), ("9 3", "reply"), ("2 3", "answer"))),
+    *((f"#{it}", "plain", "none", text) for it, text in (
+        ("lost-left", "never received"), ("stopped", "refused there"), ("settled", "accepted there"), ("requeued", "put back"),
+        ("came-back", "returned"), ("timed-out", "unknown"))),
+]
 SVG = "{http://www.w3.org/2000/svg}"
 SERIAL = re.compile(r"\d+\.\d+$")
 
@@ -84,6 +107,12 @@ def y_of(row):
     return TOP + PITCH * row + PITCH // 2
 
 
+def title_of(element):
+    """What whoever points at an element is told: its first child."""
+    first = next(iter(element), None)
+    return first.text if first is not None and first.tag == SVG + "title" else None
+
+
 def ends_of(element):
     """The rows' heights between which an arrow leads."""
     if element.tag == SVG + "line":
@@ -95,39 +124,147 @@ def ends_of(element):
 def arrows_in(picture):
     """The arrows that are drawn."""
     return [
-        (*ends_of(it), it.get("class"), it.get("stroke-dasharray"), it.get("opacity"))
+        (*ends_of(it), it.get("class"), it.get("stroke-dasharray"), it.get("opacity"), title_of(it))
         for it in picture if it.tag in (SVG + "line", SVG + "path") and it.get("marker-end")
     ]
+
+
+def way_title(journal, packet):
+    """How the title of a packet's arrow or cross begins."""
+    row, serial, _ = journal.sent[packet]
+    source, there, number = packet
+    return f"{serial} packet {number}, {source} to {there}, line {row + 3}"
 
 
 def arrows_due(journal, colour):
     """The arrows that are due."""
     return [
         (y_of(journal.sent[packet][0]), y_of(row), colour(journal.sent[packet][1]), journal.dashes(packet),
-         "0.4" if what in ("again", "stale", "nothing") else "1")
+         "0.4" if what in ("again", "stale", "nothing") else "1", f"{way_title(journal, packet)} to {row + 3}")
         for packet, row, what in journal.received
     ]
 
 
-def faults_in(picture, lines, fates):
+def spans(values):
+    """From which line to which a value stands, of those in front of the first line and behind each."""
+    line = 2
+    for value, same in groupby(values):
+        until = line + len(list(same))
+        yield value, line, until
+        line = until
+
+
+def bars_due(scenario, report):
+    """The class and the title of each bar, by the machine that makes the entries again."""
+    states = States(scenario, report)
+    ends = {id: [] for id in states.cluster.ends}
+
+    def note():
+        for id, end in states.cluster.ends.items():
+            ends[id].append(((end.place, end.draining and isinstance(end.place, int)), len(end.records), len(end.received)))
+
+    note()
+    for line in states.journal:
+        states.make(line)
+        note()
+    for id in sorted(ends):
+        for (place, drains), *lines in spans([it[0] for it in ends[id]]):
+            word = f"{'draining in ' * drains}frame {place}" if isinstance(place, int) else "direct network" if place == "direct" else place
+            yield "draining" if drains else "frame" if isinstance(place, int) else place, *bar_due(id, word, *lines, len(states.journal))
+        for kind, name in ((1, "records"), (2, "received")):
+            for count, *lines in spans([it[kind] for it in ends[id]]):
+                if count:
+                    yield name, *bar_due(id, f"{name} {count}", *lines, len(states.journal))
+
+
+def bar_due(id, word, line, until, count):
+    """Where a bar begins and how high it is, and its title."""
+    top, end = (TOP if it < 3 else TOP + PITCH * count if it == count + 3 else y_of(it - 3) for it in (line, until))
+    return top, end - top, f"endpoint {id}: {word}, line {line} to {until}"
+
+
+def heads_in(picture):
+    """The class, the height, the title and the text of each head, and of each interface's lane."""
+    heads = [it for it in picture if it.get("class") in ("head", "again", "lane")]
+    return [(it.get("class"), int(it.get("y") or it.get("y1")), title_of(it), (it[0].tail if len(it) else it.text) or "") for it in heads]
+
+
+def heads_due(states, rows):
+    """The heads that are due: of nodes and interfaces, and then of endpoints."""
+    again = [TOP + PAGE * (page + 1) + 3 for page in range(PITCH * rows // PAGE)]
+    for node in range(states.scenario.nodes):
+        yield "head", TOP - 42, f"node {node}", f"node {node}"
+        if states.scenario.network == "packet":
+            title = f"interface of node {node}"
+            yield "head", TOP - 8, title, f"i{node}"
+            yield "lane", TOP, title, ""
+            yield from (("again", y, title, f"i{node}") for y in again)
+    for id, end in sorted(states.scenario.ends.items()):
+        title = f"endpoint {id} of node {end.node}, tag {tag_word(end.tag)}"
+        yield "head", TOP - 20, title, f"endpoint {id}"
+        yield "head", TOP - 8, title, f"tag {tag_word(end.tag)}"
+        yield from (("again", y, title, f"endpoint {id}") for y in again)
+
+
+def legend_in(picture):
+    """The signs above the lanes, and what stands beside each."""
+    above = [it for it in picture if it.tag in (SVG + "use", SVG + "text") and int(it.get("y")) < 134 and it.get("class") != "head"]
+    signs, texts = above[::2], above[1::2]
+    for sign, text in zip(signs, texts):
+        beside = int(text.get("x")) - int(sign.get("x")), int(text.get("y")) - int(sign.get("y"))
+        yield sign.get("href"), sign.get("class"), sign.get("stroke-dasharray"), text.text if beside == (16, 3) else None
+
+
+def legend_due(picture):
+    """Those signs of the legend that occur below it."""
+    rows = [{it.get("href") for it in group.findall(SVG + "use")} for group in picture.findall(SVG + "g")]
+    below = [it for it in picture if it.tag != SVG + "g" and it.get("class") not in ("head", "again")]
+    packets = [it for it in below if it.get("stroke-dasharray") and (it.get("marker-end") or int(it.get("y", "0")) > TOP)]
+    signs = set().union(*rows)
+    if any(it.get("href") for it in packets):
+        signs.add("#lost-left")
+    if not all(any(it.startswith("#fate-") for it in signs_of) for signs_of in rows):
+        signs.add("#no-fate")
+    boxes, dashes = {it.get("class") for it in below if it.tag == SVG + "rect"}, {it.get("stroke-dasharray") for it in packets}
+    return [it for it in LEGEND if (it[1] in boxes if it[0] == "#box" else it[2] in dashes if it[0] == "#way" else it[0] in signs)]
+
+
+def faults_in(picture, scenario, report):
     """What is wrong with a picture."""
+    lines, fates = lines_of(report)
     journal = Journal(lines)
 
     def colour(serial):
         return fates.get(serial, "plain")
 
-    if [it.text for it in picture.iter(SVG + "title")] != lines:
-        yield "titles"
+    if [title_of(it) for it in picture.findall(SVG + "g")] != lines:
+        yield "titles of rows"
     if arrows_in(picture) != arrows_due(journal, colour):
         yield "arrows"
     got = {packet for packet, _, _ in journal.received}
-    lost = sorted((y_of(row), colour(serial)) for packet, (row, serial, _) in journal.sent.items() if packet not in got)
+    lost = sorted((y_of(it[0]), colour(it[1]), f"{way_title(journal, packet)}, not received") for packet, it in journal.sent.items() if packet not in got)
     crosses = [
-        (int(it.get("y")), it.get("class"))
+        (int(it.get("y")), it.get("class"), title_of(it))
         for it in picture if (it.get("href") or "").startswith("#lost") and int(it.get("y")) > TOP  # above stands the legend
     ]
     if sorted(crosses) != lost:
         yield "crosses"
+    bars = [
+        (it.get("class"), int(it.get("y")), int(it.get("height")), title_of(it)) for it in picture if it.tag == SVG + "rect" and it.get("class") in BARS
+    ]
+    if bars != list(bars_due(scenario, report)):
+        yield "bars"
+    if sorted(heads_in(picture), key=str) != sorted(heads_due(States(scenario, report), len(lines)), key=str):
+        yield "heads"
+    if list(legend_in(picture)) != legend_due(picture):
+        yield "legend"
+    if [it.text for it in picture if it.get("y") == "134"] != [picture.find(SVG + "desc").text]:
+        yield "totals"
+    yield from row_faults(picture, journal, lines, colour)
+
+
+def row_faults(picture, journal, lines, colour):
+    """What is wrong with the signs of rows."""
     for row, group in enumerate(picture.findall(SVG + "g")):
         serial, signs = journal.about[row], group.findall(SVG + "use")
         if any(int(it.get("y")) != y_of(row) for it in signs):
@@ -151,11 +288,11 @@ def main():
     wrong = rows = 0
     for scenario, report in chosen:
         texts = scenario.read_text(), report.read_text()
-        lines, fates = lines_of(texts[1])
+        lines, _ = lines_of(texts[1])
         if len(lines) > 400:
             continue
         rows += len(lines)
-        for fault in faults_in(drawn(sys.argv[1], form_of(texts[0]), "".join(texts)), lines, fates):
+        for fault in faults_in(drawn(sys.argv[1], form_of(texts[0]), "".join(texts)), *texts):
             wrong += 1
             print(f"{scenario}: {fault}")
     print(f"{len(chosen)} pictures, {rows} rows, {wrong} faults")

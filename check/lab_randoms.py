@@ -36,9 +36,8 @@ def right_report(program, form, text, report):
 
 def chart_faults(program, form, text, report):
     """What is wrong in the picture of a right report, whose rows are read where they are high."""
-    lines, fates = lines_of(report)
     picture = drawn(program, form, text + report)
-    return [f"chart {form}: {fault}" for fault in faults_in(picture, lines, fates)] if len(lines) <= 400 else []
+    return [f"chart {form}: {fault}" for fault in faults_in(picture, text, report)] if len(lines_of(report)[0]) <= 400 else []
 
 
 def spoiled_report(program, form, text, report):

@@ -7,6 +7,7 @@ what it saw. Where there is no chromium it says that nothing was tried.
 """
 import json
 import pathlib
+import re
 import subprocess
 import sys
 import tempfile
@@ -28,6 +29,7 @@ INSIDE = """(() => {
 CHOSEN = "document.getElementById(document.querySelector('#lines').getAttribute('aria-activedescendant')).getAttribute('aria-selected')"
 CONTROLS = "search by-message by-endpoint by-node by-fate by-kind previous-mark next-mark fold-lanes fold-lines height lines side".split()
 ROLES = "button checkbox combobox searchbox textbox slider listbox option image link".split()
+WAY = r"\d+\.\d+ packet \d+, \d+ to \d+, line \d+ to \d+"
 BREAKING = "# </script><script>document.title='out'</script><img src=x onerror=alert(1)>\n# <!-- ' \" ]]> <svg onload=alert(2)>\n"
 
 
@@ -110,6 +112,9 @@ def lines_and_heads(trial):
     first = trial.entries[4]["line"]
     trial.is_so("a line stands beside its row", window.value(INSIDE % (4, first)) < 2)
     trial.says("its number", f"document.querySelector('#line-{first} .number').textContent", str(first))
+    told = "[...document.querySelectorAll('#picture > svg > line[marker-end]')].map((it) => it.firstChild.textContent)"
+    trial.is_so("each arrow tells its packet", all(re.fullmatch(WAY, it) for it in window.value(told)))
+    trial.says("and heads come once", "[...document.querySelectorAll('#picture .again')].every((it) => getComputedStyle(it).display === 'none')")
     window.value("document.querySelector('#view').scrollTo(0, 1e9)")
     trial.says("the heads stay", "document.querySelector('#heads').getBoundingClientRect().top === document.querySelector('#view').getBoundingClientRect().top")
     trial.says("the last line is there", f"Boolean(document.querySelector('#line-{trial.entries[-1]['line']}'))")
