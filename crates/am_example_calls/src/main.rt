@@ -92,11 +92,8 @@ fn main(rt: HostRuntime) -> Result<()> {
             alloc,
             &asked.arguments,
             &asked.plans,
-        ),
-        None => answers_to(&DrainAlone, &rt, alloc, &asked.arguments, &asked.plans),
+        )?,
+        None => answers_to(&DrainAlone, &rt, alloc, &asked.arguments, &asked.plans)?,
     };
-    match answers {
-        Ok(answers) => print(&rt, &answers),
-        Err(_) => bail!("the calls were not answered"),
-    }
+    print(&rt, &answers)
 }

@@ -13,37 +13,16 @@ use am_library::laws::{
     all_run_where_they_lead, each_asked_has_its_end, each_reply_has_its_end, echoes_are_words,
     what_ran_was_asked_for,
 };
-use am_library::{Account, Draft, DraftFault, RunFault, Runner, Setting, runs_at};
+use am_library::{Account, Draft, DraftFault, RoundFault, Runner, Setting, runs_at};
 use am_names::{EndpointId, NoMemory, NodeId, Tag, Words};
 use am_office_entries::HandlerKind;
 use am_scenario_types::{PlanLine, Scenario};
 use std::alloc::Global;
 use std::thread::Threads;
-use thiserror::Error;
 
 const SERVER: EndpointId = EndpointId(0);
 
 const CLIENT: EndpointId = EndpointId(1);
-
-/// Why calls were not answered.
-#[derive(Debug, Drop, Error)]
-pub enum CallFault {
-    /// There are more calls than a scenario takes, or a line of a plan is out of its range.
-    #[error("a round is no scenario")]
-    NoScenario(#[from] DraftFault),
-    /// A round did not come to its end.
-    #[error("a round did not end")]
-    NoEnd(#[from] RunFault),
-    /// There is no memory.
-    #[error("there is no memory")]
-    NoMemory,
-}
-
-impl From<NoMemory> for CallFault {
-    fn from(_e: NoMemory) -> CallFault {
-        CallFault::NoMemory
-    }
-}
 
 // Thread 0 on node 0 sets up the server, which echoes; thread 1 on node 1 the client, whose index 0 leads there.
 fn set_up(alloc: Global) -> Result<Draft, DraftFault>
@@ -139,7 +118,7 @@ fn run_round<R: Runner, T: Threads + Sync>(
     alloc: Global,
     scenario: &Scenario,
     answers: &mut [Answer],
-) -> Result<(), CallFault>
+) -> Result<(), RoundFault>
     requires shared { IsSync T.row }
     requires lawful { IsLawful scenario.now }
     requires packet { scenario.now.network ≡ Packet }
@@ -167,7 +146,7 @@ pub fn answers_to<R: Runner, T: Threads + Sync>(
     alloc: Global,
     arguments: &[u64],
     plans: &[Vec<PlanLine>],
-) -> Result<Vec<Answer>, CallFault>
+) -> Result<Vec<Answer>, RoundFault>
     requires { IsSync T.row }
     ensures { IfOk result (λ answers. AreAnswered arguments.now plans.now answers.items) }
 {
