@@ -1,4 +1,4 @@
-//! Tests of segments and transfers: texts with the fault that each has, and what one stands for.
+//! Tests of segments and transfers: texts with the fault that each has, and what is written and printed.
 
 #[cfg(test)]
 mod tables;
