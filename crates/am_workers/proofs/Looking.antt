@@ -1,7 +1,7 @@
 -- An interface looks at its links, one after the other.
 use Rattle.std.specs.Prelude.{is_some, nat_lt, slice_get, slice_set}
 use Rattle.std.proofs.Common.{◌≡◌, ◌≢◌, ◌⊎◌, inl, inr, ⊎_elim, ℕ, ◌+◌, ◌-◌, ◌<◌, ◌≤◌, Bool, true, false, List, [], length, Option, Some, None, ap, sym, ◌∙◌, subst, arith}
-use Rattle.std.proofs.Common.{if◌then◌else◌, IfNone, refl, true≢false}
+use Rattle.std.proofs.Common.{if◌then◌else◌, IfNone, IfSome, refl, true≢false}
 use Rattle.std.proofs.lemmas.Bool.{le-ltb, lt-ltb, ltb-false, ltb-true}
 use Rattle.std.proofs.lemmas.Option.{slice_get_within}
 use Rattle.am_lemmas.proofs.Lists.{slice_get-set_elsewhere}
@@ -9,7 +9,9 @@ use Rattle.am_wire.specs.Links.{free_places, known, waiting}
 use Rattle.am_wire.specs.declared.receiving.LinkIn.{LinkIn}
 use Rattle.am_wire.specs.declared.sending.LinkOut.{LinkOut}
 use Rattle.am_workers.specs.Turns.Chosen.{place_after}
-use Rattle.am_workers.specs.WorkerTurns.{AreWhole, AreWholeTo, NoneIsKnown, place_on}
+use Rattle.am_model.specs.Layout.{node_at}
+use Rattle.am_workers_laws.specs.Invariants.Works.{Hand}
+use Rattle.am_workers.specs.WorkerTurns.{AreWhole, AreWholeTo, NoneIsKnown, TakesFirst, place_on}
 use Rattle.am_workers.proofs.Linking.{got_set}
 
 -- ---- one of the ends that send was pumped
@@ -120,3 +122,16 @@ rest_more a b c from passed low rest others m late few =
 pub none_taken : {X : Type 0} (o : Option X) (P : Type 0) → is_some o ≡ false → IfNone o P → P
 none_taken None P none h = h
 none_taken (Some x) P none h = absurd (true≢false none)
+
+-- all were passed over
+pub all_passed : (a : List LinkIn) (from there passed : ℕ) → from < length a → passed ≡ length a → there ≡ place_on from (length a) passed →
+    NoneIsKnown a from passed → TakesFirst a from there None
+all_passed a from there passed low all here none =
+    (here ∙ ap (λ (m : ℕ). place_on from (length a) m) all ∙ on_all from (length a) low, subst (λ (m : ℕ). NoneIsKnown a from m) all none)
+
+-- the first that had one
+pub one_taken : (o : Hand) (a : List LinkIn) (from there passed : ℕ) → is_some o ≡ true → passed < length a →
+    IfSome o (λ held. held.0 ≡ node_at (place_on from (length a) passed)) → there ≡ place_on from (length a) (passed + 1) → NoneIsKnown a from passed →
+    TakesFirst a from there o
+one_taken None a from there passed some few node here none = absurd (true≢false (sym some))
+one_taken (Some h) a from there passed some few node here none = (passed, few, node, here, none)

@@ -261,6 +261,12 @@ second_failed true true low o failed = absurd (true≢false failed)
 second_failed true false low o failed = refl
 second_failed false ready low o failed = refl
 
+third_failed : (of ready low : Bool) (o : Option Condition) → low ≡ false → ((of && ready && low) && is_none o) ≡ false
+third_failed true true true o failed = absurd (true≢false failed)
+third_failed true true false o failed = refl
+third_failed true false low o failed = refl
+third_failed false ready low o failed = refl
+
 all_passed : (of ready low : Bool) → of ≡ true → ready ≡ true → low ≡ true → (of && ready && low) ≡ true
 all_passed true true true a b c = refl
 all_passed true true false a b c = absurd (true≢false (sym c))
@@ -292,6 +298,11 @@ pub not_ready : (d e : EndpointView) (i : InterfaceView) (w : Work) (b : Bool) �
 not_ready d e i w b same value is =
     second_failed (is_of i.settings e.settings (state_after e)) (is_ready i (state_after e) w) (is_low i w e.log) (failing_at (own i) (state_after e) w)
     (ready_book d e i w b false same value is)
+
+pub not_low : (d e : EndpointView) (i : InterfaceView) (w : Work) (b : Bool) → d ≡ e → b ≡ is_low i w d.log → b ≡ false → can_do w i e.settings e.log ≡ false
+not_low d e i w b same value is =
+    third_failed (is_of i.settings e.settings (state_after e)) (is_ready i (state_after e) w) (is_low i w e.log) (failing_at (own i) (state_after e) w)
+    (low_book d e i w b false same value is)
 
 pub passed_all : (set : SettingsView) (d f g e : EndpointView) (i : InterfaceView) (w : Work) (x y z : Bool) → set ≡ i.settings → d ≡ e → f ≡ e → g ≡ e →
     x ≡ is_of set d.settings (state_after d) → x ≡ true → y ≡ is_ready i (state_after f) w → y ≡ true → z ≡ is_low i w g.log → z ≡ true →

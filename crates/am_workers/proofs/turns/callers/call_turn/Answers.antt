@@ -1,8 +1,9 @@
-use Rattle.std.proofs.Common.{◌≡◌, ℕ, ◌+◌, Some, slice_get, sym, ◌∙◌, subst}
+use Rattle.std.proofs.Common.{◌≡◌, ℕ, ◌+◌, Some, arith, slice_get, sym, ◌∙◌, subst}
+use Rattle.std.proofs.lemmas.Option.{slice_get_within}
 use Rattle.am_workers.specs.Turns.Callers.{next_after}
 use Rattle.am_workers_laws.specs.Invariants.Works.{ThreadWorks}
 use Rattle.am_workers.proofs.Same.{due_here, thread_same}
-use Rattle.am_workers.proofs.TurnsTaken.{turn_keeps}
+use Rattle.am_workers.proofs.TurnsTaken.{idle_keeps, turn_keeps}
 use Rattle.am_workers.proofs.turns.callers.call_turn.Goals as goal
 
 pub returns-clause-seat : goal.returns-clause-seat
@@ -31,3 +32,11 @@ returns-clause-turn c =
           (sym c.place_of.ensures.place ∙ c.in-Some-place_of.is),
       t.ensures.turn,
     )
+
+pub returns-in_default-clause-works : goal.returns-in_default-clause-works
+returns-in_default-clause-works c s turns script works = idle_keeps s c.args.ids.now c.args.thread turns c.args.next.now c.args.clock.now c.args.seat.now.token.me.0 works
+
+pub next_after-requires : goal.next_after-requires
+next_after-requires c =
+    let at : slice_get c.args.script.now c.args.next.now ≡ Some c.in-Some.call = sym c.call_at.ensures ∙ c.in-Some.is in
+    let near = slice_get_within c.args.script.now c.args.next.now c.in-Some.call at in let few = c.requires.few in omega (arith, near, few)

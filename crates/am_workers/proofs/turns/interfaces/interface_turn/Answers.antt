@@ -1,7 +1,8 @@
 use Rattle.std.proofs.Common.{refl, sym, ap, ◌∙◌}
+use Rattle.am_workers_laws.proofs.Staying.{M}
 use Rattle.atomic_table.specs.Seated.{TableId}
 use Rattle.am_workers.specs.Turns.Turns.{worked_in}
-use Rattle.am_workers_laws.proofs.Staying.{Stands, is_small, left_idle, may_grow, may_stay, same_frames, stands_of, stayed_there}
+use Rattle.am_workers_laws.proofs.Staying.{Stands, is_small, left_idle, may_grow, may_stay, may_still, same_frames, stands_of, stayed_there}
 use Rattle.am_workers.proofs.WorkTurns.{interface_turned, still_worked}
 use Rattle.am_workers.proofs.turns.interfaces.interface_turn.Goals as goal
 
@@ -59,3 +60,19 @@ returns-in-Ok-clause-idle c =
     c.try_enter_at.new.seat.token.me b _ c.leave.new.seat.token s w
     (same_frames c.args.at c.in-Ok.entered.at t.token.me c.try_enter_at.new.seat.token.me b w) refl c.leave.ensures.tenure (c.leave.ensures.seat.0
     ∙ c.in-Ok.ensures.seat.0 ∙ c.requires.idle.table)
+
+pub leave-requires-clause-still : goal.leave-requires-clause-still
+leave-requires-clause-still c κs guest =
+    let p = c.args.places.now in let t = c.args.seat.now in let b = c.in-Ok.entered.book in
+    let s : Stands c.args.at t.token.me = stands_of c.args.at p.count t.token.table_id.slots t.mark t.token.me
+    (ap (λ (i : TableId). i.slots) c.requires.idle.table
+    ∙ p.sized.1) t.sized c.requires.at c.requires.idle.hand c.requires.idle.outside t.marked.1 t.marked.3 in
+    may_still c.args.at c.in-Ok.entered.at t.token.me c.try_enter_at.new.seat.token.me b c.work_at-turn.new.book.end.value
+    (worked_in c.work_at-turn.result) s c.in-Ok.ensures.book c.work_at-turn.ensures.added
+    (still_worked c.args.work.now c.args.interface.now c.work_at-turn.new.interface c.work_at-turn.result b.end.value.settings b.end.value.log
+    c.work_at-turn.ensures.found)
+
+pub leave-requires-clause-fits : goal.leave-requires-clause-fits
+leave-requires-clause-fits c κs driver =
+    let w = c.in-Ok.ensures.book in
+    absurd (c.requires.guest (sym (ap (λ (m : M). m.0.mark) w.3) ∙ driver ∙ ap (λ (m : M). m.0.seats) w.3))

@@ -1,7 +1,8 @@
 use Rattle.std.proofs.Common.{sym, ap, ◌∙◌}
+use Rattle.am_workers_laws.proofs.Staying.{M}
 use Rattle.atomic_table.specs.Seated.{TableId}
 use Rattle.am_workers.specs.Turns.Turns.{made_in}
-use Rattle.am_workers_laws.proofs.Staying.{Stands, is_small, may_grow, may_stay, stands_of, stayed_there}
+use Rattle.am_workers_laws.proofs.Staying.{Stands, is_small, may_grow, may_stay, may_still, stands_of, stayed_there}
 use Rattle.am_workers.proofs.Answering.{still_made, thread_turned}
 use Rattle.am_workers.proofs.turns.threads.thread_turn.Goals as goal
 
@@ -46,3 +47,18 @@ returns-in-Ok-clause-turn c =
     (made_in c.act-turn.result) c.try_enter_at.new.seat.mark s w (sym c.try_enter_at.new.seat.marked.1) c.leave.ensures.tenure c.act-turn.ensures.settings
     c.act-turn.ensures.added)
     w.2.stands_for c.act-turn.ensures.found
+
+pub leave-requires-clause-still : goal.leave-requires-clause-still
+leave-requires-clause-still c κs guest =
+    let p = c.args.places.now in let t = c.args.seat.now in let b = c.in-Ok.entered.book in
+    let s : Stands c.args.at t.token.me = stands_of c.args.at p.count t.token.table_id.slots t.mark t.token.me
+    (ap (λ (i : TableId). i.slots) c.requires.idle.table
+    ∙ p.sized.1) t.sized c.requires.at c.requires.idle.hand c.requires.idle.outside t.marked.1 t.marked.3 in
+    may_still c.args.at c.in-Ok.entered.at t.token.me c.try_enter_at.new.seat.token.me b c.act-turn.new.book.end.value
+    (made_in c.act-turn.result) s c.in-Ok.ensures.book c.act-turn.ensures.added
+    (still_made c.args.thread c.args.call c.args.clock.now c.act-turn.result b.end.value.settings b.end.value.log c.act-turn.ensures.found)
+
+pub leave-requires-clause-fits : goal.leave-requires-clause-fits
+leave-requires-clause-fits c κs driver =
+    let w = c.in-Ok.ensures.book in
+    absurd (c.requires.guest (sym (ap (λ (m : M). m.0.mark) w.3) ∙ driver ∙ ap (λ (m : M). m.0.seats) w.3))
