@@ -36,6 +36,7 @@ use Rattle.am_places.specs.declared.board.Tenure.{Tenure}
 use Rattle.am_workers_laws.specs.Invariants.Seats.{EndPass, Ids, Stays}
 use Rattle.am_workers.specs.Turns.Chosen.{may_retry}
 use Rattle.am_iface.specs.Settings.{SettingsView}
+use Rattle.am_workers.specs.Turns.Servers.{IfMade}
 use Rattle.am_workers.specs.Turns.Tests.{can_do, is_fit, is_low, is_of, is_ready, may_alone, passes}
 use Rattle.am_workers.specs.Turns.Turns.{Alone, AloneTurns, HasTries, InterfaceFound, InterfaceTurns, IsSomeFull, MayBounce, Same, Shut, Still, With, WorkTurns}
 use Rattle.am_workers.specs.Turns.Turns.{FoundAlone, FoundAt, FoundThere, WhyTurned, worked_in}
@@ -249,6 +250,13 @@ why_there ids end w i turn v u fit needed h = inr (fit, subst (λ (o : Option En
 
 pub why_unfit : (ids : Ids) (w : Work) (i : InterfaceView) (v : EndPass) → is_fit i.settings w ≡ false → WhyTurned ids w i v v Worked.NotYet
 why_unfit ids w i v unfit = inl (unfit, refl, refl)
+
+pub if_made : (turn : InterfaceTurn) (P : Type 0) → P → IfMade turn P
+if_made (Worked.Made t) P h = h
+if_made (Worked.Busy holder) P h = tt
+if_made Worked.NotYet P h = tt
+if_made Worked.Full P h = tt
+if_made Worked.NoMemory P h = tt
 
 -- ---- what is tested of the endpoint
 

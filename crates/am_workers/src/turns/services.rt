@@ -140,7 +140,6 @@ fn with_turn(
 }
 
 /// A turn of an interface with this work. Where a test of it fails, or the endpoint that it needs is of another node, nothing is done.
-#[tactic(auto, using(crate::proofs::WorkTurns::why_alone, crate::proofs::WorkTurns::why_there, crate::proofs::WorkTurns::why_unfit))]
 pub fn work_turn(
     places: &Places<EndBook>,
     seat: &mut Seat<EndBook>,

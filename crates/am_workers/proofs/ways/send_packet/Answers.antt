@@ -18,3 +18,11 @@ returns-clause-sent c =
     sent_more outs at was c.offer_ready.new.self c.args.packet c.way_of-at.ensures
     (at_index outs at was (subst (λ (n : ℕ). n < length outs) (sym c.way_of-at.ensures) c.requires.to) c.index_mut-link.ensures.value)
     c.offer_ready.ensures.emitted
+
+pub offer_ready-requires : goal.offer_ready-requires
+offer_ready-requires c =
+    let outs = c.args.outs.now.items in let at = c.way_of-at.result in let was = c.index_mut-link.result.now in
+    record {
+      spare = c.requires.room at was
+          (at_index outs at was (subst (λ (n : ℕ). n < length outs) (sym c.way_of-at.ensures) c.requires.to) c.index_mut-link.ensures.value);
+    }

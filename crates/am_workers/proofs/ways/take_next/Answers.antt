@@ -1,6 +1,5 @@
 use Rattle.std.specs.Prelude.{slice_get}
-use Rattle.std.proofs.Common.{◌≡◌, ◌<◌, ◌≤◌, ◌∙◌, ◌++◌, ℕ, List, [], IfSome, Some, ap, append-nil, arith, refl, rules, subst, sym, length}
-use Rattle.am_names.specs.declared.NodeId.{NodeId}
+use Rattle.std.proofs.Common.{◌≡◌, ◌<◌, ◌∙◌, ◌++◌, ℕ, List, [], IfSome, Some, ap, append-nil, arith, refl, rules, subst, sym, length}
 use Rattle.am_names.specs.declared.Packet.{Packet}
 use Rattle.am_model.specs.Layout.{node_at}
 use Rattle.am_workers_laws.specs.Invariants.Works.{held_from}

@@ -40,3 +40,12 @@ pub next_after-requires : goal.next_after-requires
 next_after-requires c =
     let at : slice_get c.args.script.now c.args.next.now ≡ Some c.in-Some.call = sym c.call_at.ensures ∙ c.in-Some.is in
     let near = slice_get_within c.args.script.now c.args.next.now c.in-Some.call at in let few = c.requires.few in omega (arith, near, few)
+
+pub thread_turn-turn-requires-clause-at : goal.thread_turn-turn-requires-clause-at
+thread_turn-turn-requires-clause-at c =
+    let near = slice_get_within c.args.ids.now c.in-Some-place_of.at c.in-Some.call.endpoint c.in-Some-place_of.ensures.there in
+    let all = c.requires.count in omega (arith, near, all)
+
+pub thread_turn-turn-requires-clause-numbers : goal.thread_turn-turn-requires-clause-numbers
+thread_turn-turn-requires-clause-numbers c set born =
+    c.requires.numbers c.in-Some-place_of.at c.args.next.now set c.in-Some.call born (sym c.call_at.ensures ∙ c.in-Some.is)

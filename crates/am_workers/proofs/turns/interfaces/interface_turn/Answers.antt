@@ -1,8 +1,7 @@
 use Rattle.std.proofs.Common.{refl, sym, ap, ◌∙◌}
-use Rattle.am_workers_laws.proofs.Staying.{M}
 use Rattle.atomic_table.specs.Seated.{TableId}
 use Rattle.am_workers.specs.Turns.Turns.{worked_in}
-use Rattle.am_workers_laws.proofs.Staying.{Stands, is_small, left_idle, may_grow, may_stay, may_still, same_frames, stands_of, stayed_there}
+use Rattle.am_workers_laws.proofs.Staying.{M, Stands, is_small, left_idle, may_grow, may_stay, may_still, same_frames, stands_of, stayed_there}
 use Rattle.am_workers.proofs.WorkTurns.{interface_turned, still_worked}
 use Rattle.am_workers.proofs.turns.interfaces.interface_turn.Goals as goal
 

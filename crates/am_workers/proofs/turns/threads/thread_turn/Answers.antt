@@ -1,8 +1,7 @@
 use Rattle.std.proofs.Common.{sym, ap, ◌∙◌}
-use Rattle.am_workers_laws.proofs.Staying.{M}
 use Rattle.atomic_table.specs.Seated.{TableId}
 use Rattle.am_workers.specs.Turns.Turns.{made_in}
-use Rattle.am_workers_laws.proofs.Staying.{Stands, is_small, may_grow, may_stay, may_still, stands_of, stayed_there}
+use Rattle.am_workers_laws.proofs.Staying.{M, Stands, is_small, may_grow, may_stay, may_still, stands_of, stayed_there}
 use Rattle.am_workers.proofs.Answering.{still_made, thread_turned}
 use Rattle.am_workers.proofs.turns.threads.thread_turn.Goals as goal
 

@@ -1,11 +1,12 @@
-use Rattle.std.proofs.Common.{◌≡◌, ◌<◌, ◌^◌, Err, Some, false, true, refl, subst, sym}
+use Rattle.std.proofs.Common.{◌≡◌, ◌<◌, ◌^◌, ◌∙◌, ◌++◌, ◌∷◌, [], Err, Some, ap, append-nil, false, true, refl, subst, sym}
+use Rattle.am_iface.specs.With.{KnowsHome}
 use Rattle.am_workers_laws.specs.Books.Books.{IsBook}
 use Rattle.am_endpoint.specs.View.{EndpointView, state_after}
 use Rattle.am_iface.specs.View.{own}
 use Rattle.am_iface.specs.With.{IsFullOf}
 use Rattle.am_model.specs.declared.EntryFault.{EntryFault}
 use Rattle.am_model_parts.specs.Granted.{FitsEndpoint}
-use Rattle.am_model_parts.specs.Interface.{failing_at, needs}
+use Rattle.am_model_parts.specs.Interface.{failing_at, home_in, needs}
 use Rattle.am_model.specs.Parts.{last_stamp}
 use Rattle.am_model.specs.Endpoint.{is_direct}
 use Rattle.am_workers.specs.Turns.Tests.{passes}
@@ -69,3 +70,43 @@ returns-in-Err-NotEnabled-clause-found c =
       can_false (passes w i e.settings e.log) (failing_at (own i) (state_after e) w) f.field-0-0
           ((subst (λ (x : EntryFault). TellsDisabled (Err x) (failing_at (own i) (state_after e) w)) f.field-0-is f.ensures.disabled f.field-0-0).0 refl),
     )
+
+pub turn_with-requires-clause-needs : goal.turn_with-requires-clause-needs
+turn_with-requires-clause-needs c =
+    subst (λ (d : EndpointView). needs (own c.args.interface.now) c.args.work.now ≡ Some d.settings.id) (sym c.deref_mut.ensures.value) c.requires.needs
+
+pub turn_with-requires-clause-home : goal.turn_with-requires-clause-home
+turn_with-requires-clause-home c =
+    subst (λ (d : EndpointView). home_in (own c.args.interface.now) d.settings.id ≡ Some d.settings.node) (sym c.deref_mut.ensures.value) c.requires.home
+
+pub turn_with-requires-clause-network : goal.turn_with-requires-clause-network
+turn_with-requires-clause-network c =
+    subst (λ (d : EndpointView). is_direct (state_after d).head.place ≡ false) (sym c.deref_mut.ensures.value) c.requires.network
+
+pub turn_with-requires-clause-bounces : goal.turn_with-requires-clause-bounces
+turn_with-requires-clause-bounces c =
+    subst (λ (d : EndpointView). d.settings.bounces ≡ c.args.interface.now.settings.bounces) (sym c.deref_mut.ensures.value) c.requires.limit
+
+pub turn_with-requires-clause-known : goal.turn_with-requires-clause-known
+turn_with-requires-clause-known c =
+    subst (λ (d : EndpointView). KnowsHome (own c.args.interface.now) (state_after d) c.args.work.now) (sym c.deref_mut.ensures.value) c.requires.known
+
+pub turn_with-requires-clause-flies : goal.turn_with-requires-clause-flies
+turn_with-requires-clause-flies c =
+    subst (λ (d : EndpointView). FitsEndpoint (own c.args.interface.now) (state_after d) c.args.work.now) (sym c.deref_mut.ensures.value) c.requires.flies
+
+pub returns-in-Ok-clause-added : goal.returns-in-Ok-clause-added
+returns-in-Ok-clause-added c =
+    c.in-Ok.ensures.logged_there ∙ ap (λ (d : EndpointView). d.log ++ c.in-Ok.turned.entry ∷ []) c.deref_mut.ensures.value
+
+pub returns-in-Err-LogFull-clause-added : goal.returns-in-Err-LogFull-clause-added
+returns-in-Err-LogFull-clause-added c =
+    c.in-Err-LogFull.ensures.err_there ∙ ap (λ (d : EndpointView). d.log) c.deref_mut.ensures.value ∙ sym (append-nil c.args.book.now.end.value.log)
+
+pub returns-in-Err-NoMemory-clause-added : goal.returns-in-Err-NoMemory-clause-added
+returns-in-Err-NoMemory-clause-added c =
+    c.in-Err-NoMemory.ensures.err_there ∙ ap (λ (d : EndpointView). d.log) c.deref_mut.ensures.value ∙ sym (append-nil c.args.book.now.end.value.log)
+
+pub returns-in-Err-NotEnabled-clause-added : goal.returns-in-Err-NotEnabled-clause-added
+returns-in-Err-NotEnabled-clause-added c =
+    c.in-Err-NotEnabled.ensures.err_there ∙ ap (λ (d : EndpointView). d.log) c.deref_mut.ensures.value ∙ sym (append-nil c.args.book.now.end.value.log)
