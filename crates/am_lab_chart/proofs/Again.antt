@@ -3,7 +3,9 @@ use Rattle.std.proofs.Common.{◌≡◌, ℕ, ◌+◌, ◌*◌, List, ◌++◌, 
 use Rattle.am_lab_picture.specs.Layout.Layout.{top}
 use Rattle.am_lab_xml.specs.Trees.{printed}
 use Rattle.am_lab_chart.specs.Captions.{Word}
-use Rattle.am_lab_chart.specs.Lanes.{head, repeated}
+use Rattle.am_lab_picture.specs.Data.{PictureLists}
+use Rattle.am_lab_chart.specs.Lanes.{head, node_lane, nodes, repeated}
+use Rattle.am_lab_chart.proofs.Each.{two_parts}
 
 pub one_page_more : (x : ℕ) (told words : List Word) (page : ℕ) →
     printed (repeated x told words (page + 1)) ≡ printed (repeated x told words page) ++ printed
@@ -20,3 +22,9 @@ again_more x told words page y before out new e f h =
     ∙ ap (λ (n : ℕ). (before ++ printed (repeated x told words page)) ++ printed (head (codes "again") x n (codes "9") told words)) h
     ∙ append_assoc before (printed (repeated x told words page)) last
     ∙ ap (λ (t : List ℕ). before ++ t) (sym (one_page_more x told words page))
+
+-- the band of one node more
+pub node_more : (p : PictureLists) (left node : ℕ) (before out new : List ℕ) → out ≡ before ++ printed (nodes p left node) →
+    new ≡ out ++ printed (node_lane p left node) → new ≡ before ++ printed (nodes p left (node + 1))
+node_more p left node before out new e f =
+    rw add-one (two_parts (printed (nodes p left node)) (printed (node_lane p left node)) before out new e f)

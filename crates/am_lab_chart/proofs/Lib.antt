@@ -4,3 +4,5 @@ pub mod Lines
 pub mod Titled
 pub mod Quiet
 pub mod Read
+mod Each
+mod Explained

@@ -48,13 +48,23 @@ fn is_at(key: &str, span: &Span<Residency>) -> bool
 fn is_at_some(key: &str, spans: &[Span<Residency>]) -> bool
     ensures { result ≡ list_any (known.is_at key.now) spans.now }
 {
-    spans.iter().any(|span| is_at(key, span))
+    for span in spans {
+        if is_at(key, span) {
+            return true;
+        }
+    }
+    false
 }
 
 fn has_level(spans: &[Span<u8>]) -> bool
     ensures { result ≡ list_any known.is_some_level spans.now }
 {
-    spans.iter().any(|span| span.value != 0)
+    for span in spans {
+        if span.value != 0 {
+            return true;
+        }
+    }
+    false
 }
 
 fn is_level(key: &str, name: &str, spans: &[Span<u8>]) -> bool
@@ -74,25 +84,45 @@ fn is_in_lane(key: &str, lane: &Lane) -> bool
 fn is_in_rows(key: &str, rows: &[Row]) -> bool
     ensures { result ≡ list_any (known.is_in_row key.now) rows.now }
 {
-    rows.iter().any(|row| is_in_row(key, row))
+    for row in rows {
+        if is_in_row(key, row) {
+            return true;
+        }
+    }
+    false
 }
 
 fn is_in_arrows(key: &str, arrows: &[Arrow]) -> bool
     ensures { result ≡ list_any (known.is_in_arrow key.now) arrows.now }
 {
-    arrows.iter().any(|arrow| is_in_arrow(key, arrow))
+    for arrow in arrows {
+        if is_in_arrow(key, arrow) {
+            return true;
+        }
+    }
+    false
 }
 
 fn is_in_crosses(key: &str, crosses: &[Cross]) -> bool
     ensures { result ≡ list_any (known.is_in_cross key.now) crosses.now }
 {
-    crosses.iter().any(|cross| is_in_cross(key, cross))
+    for cross in crosses {
+        if is_in_cross(key, cross) {
+            return true;
+        }
+    }
+    false
 }
 
 fn is_in_lanes(key: &str, lanes: &[Lane]) -> bool
     ensures { result ≡ list_any (known.is_in_lane key.now) lanes.now }
 {
-    lanes.iter().any(|lane| is_in_lane(key, lane))
+    for lane in lanes {
+        if is_in_lane(key, lane) {
+            return true;
+        }
+    }
+    false
 }
 
 /// Whether something that the legend has by this word occurs in the picture.
