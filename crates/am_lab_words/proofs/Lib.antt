@@ -1,2 +1,1 @@
-mod LineWords
 mod InRange

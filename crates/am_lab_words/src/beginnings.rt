@@ -1,9 +1,8 @@
 //! The words that a line of a report is to begin with.
 
 ghost use Rattle.am_lab_words.specs.Words.{are_line_words, is_line_word, line_words, option_words, words_before};
-ghost use Rattle.std.specs.Global.{Global};
 ghost use Rattle.std.specs.List.{list_all};
-ghost use Rattle.std.specs.Prelude.{◌≡◌, String as Text, drop, map, string_bytes};
+ghost use Rattle.std.specs.Prelude.{◌≡◌, drop, map, string_bytes};
 
 use crate::Asked;
 
@@ -14,17 +13,15 @@ fn is_line_word(word: &str) -> bool
     !word.is_empty() && !word.starts_with("--")
 }
 
-fn each_is_line_word(words: &[String]) -> bool
-    ensures { result ≡ list_all (λ (word : Text Global). is_line_word (string_bytes word)) words.now }
-{
-    words.iter().all(|word| is_line_word(word.as_str()))
-}
-
-// The same, said of the bytes of the words.
 fn all_are_line_words(words: &[String]) -> bool
     ensures { result ≡ list_all is_line_word (map string_bytes words.now) }
 {
-    each_is_line_word(words)
+    for word in words {
+        if !is_line_word(word.as_str()) {
+            return false;
+        }
+    }
+    true
 }
 
 /// Whether a line may be asked for by these words.

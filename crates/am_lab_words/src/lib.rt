@@ -23,7 +23,7 @@ mod state;
 pub use crate::beginnings::line_words;
 pub use crate::mistakes::Wrong;
 pub use crate::reading::asked_for;
-use crate::shown::{all_words, example_of, shown_of, words_of};
+use crate::shown::{Shown, all_words, example_of, shown_of, words_of};
 use am_names::Serial;
 use am_scenario_types::Form;
 use clap::Error;
@@ -143,12 +143,17 @@ fn told(alloc: Global, sentence: &str, example: &str) -> Result<String, AllocErr
     Ok(text)
 }
 
+// A text as clap tells it of a command, or of all of them.
+fn error_told(alloc: Global, shown: Option<Shown>, text: &str) -> Result<Error, AllocError> {
+    let mut command = words_of(alloc, shown)?;
+    command.error(ErrorKind::ValueValidation, text)
+}
+
 // What is wrong with words that clap lets pass, with the usage of their command.
 fn told_wrong(alloc: Global, words: &[String], wrong: Wrong) -> Result<Error, AllocError> {
     let shown = shown_of(words);
     let text = told(alloc, wrong.sentence(), example_of(shown))?;
-    let mut command = words_of(alloc, shown)?;
-    command.error(ErrorKind::ValueValidation, text.as_str())
+    error_told(alloc, shown, text.as_str())
 }
 
 // The words, which ask for nothing, as clap has them: the help or the version, or what is wrong with their shape; else what is
@@ -189,8 +194,7 @@ pub fn read_words(alloc: Global, words: &[String]) -> Result<Asked, Error>
 
 fn no_text(alloc: Global) -> Result<Error, AllocError> {
     let text = told(alloc, "a word is no text in UTF-8", example_of(None))?;
-    let mut command = all_words(alloc)?;
-    command.error(ErrorKind::ValueValidation, text.as_str())
+    error_told(alloc, None, text.as_str())
 }
 
 /// What is told of words that are no text in UTF-8.

@@ -26,6 +26,8 @@ bin/am2_lab explain step --front < examples/first.am2",
     example: "bin/am2_lab explain step --front < examples/first.am2",
 };
 
+const WHY_EXAMPLE: &str = "cat examples/first.am2 examples/first.out | bin/am2_lab why step 0.1";
+
 const WHY: Shown = Shown {
     name: "why",
     about: "Tells what became of a message, and why",
@@ -33,7 +35,7 @@ const WHY: Shown = Shown {
     more: "E.K is the K-th message that endpoint E accepted, as the report prints it. \
 Standard input is a scenario of this form and, behind it, its report:\n\n  \
 cat examples/first.am2 examples/first.out | bin/am2_lab why step 0.1",
-    example: "cat examples/first.am2 examples/first.out | bin/am2_lab why step 0.1",
+    example: WHY_EXAMPLE,
 };
 
 const CHART: Shown = Shown {
@@ -157,13 +159,18 @@ const INPUT: &str =
     cat examples/first.am2 examples/first.out | bin/am2_lab why step 0.1\n  \
     bin/am2_lab scenario run < examples/run-withheld.am2";
 
+// The commands. Only the proof of this function reads their texts, which are long.
+fn commands() -> &'static [Shown] {
+    COMMANDS
+}
+
 fn is_named(shown: &Shown, name: &str) -> bool {
     shown.name == name
 }
 
 // The command of this name.
 fn named(name: &str) -> Option<Shown> {
-    for shown in COMMANDS {
+    for shown in commands() {
         if is_named(shown, name) {
             return Some(*shown);
         }
@@ -183,7 +190,7 @@ pub(crate) fn shown_of(words: &[String]) -> Option<Shown> {
 pub(crate) fn example_of(shown: Option<Shown>) -> &'static str {
     match shown {
         Some(shown) => shown.example,
-        None => WHY.example,
+        None => WHY_EXAMPLE,
     }
 }
 
@@ -214,18 +221,34 @@ fn with_command<'a>(
     command.subcommand(more)
 }
 
-/// All commands.
-pub(crate) fn all_words<'a>(alloc: Global) -> Result<Command<'a>, AllocError> {
-    let mut command = Command::new(alloc, "am2_lab")
-        .about("Reads a scenario, alone or with its report behind it, and shows what is in it")
+// The program, as yet without commands.
+fn program<'a>(alloc: Global) -> Command<'a> {
+    let command = Command::new(alloc, "am2_lab").about(
+        "Reads a scenario, alone or with its report behind it, and shows what is in it",
+    );
+    command
         .after_help(INPUT)
         .version("1")
-        .subcommand_required(true);
-    for shown in COMMANDS {
+        .subcommand_required(true)
+}
+
+// The program with these commands.
+fn with_commands<'a>(
+    alloc: Global,
+    program: Command<'a>,
+    commands: &[Shown],
+) -> Result<Command<'a>, AllocError> {
+    let mut command = program;
+    for shown in commands {
         let more = with_command(alloc, command, *shown)?;
         command = more;
     }
     Ok(command)
+}
+
+/// All commands.
+pub(crate) fn all_words<'a>(alloc: Global) -> Result<Command<'a>, AllocError> {
+    with_commands(alloc, program(alloc), commands())
 }
 
 /// A command, or all of them.
