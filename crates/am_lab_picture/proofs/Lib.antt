@@ -5,3 +5,4 @@ pub mod Laning
 pub mod Shown
 mod Counts
 mod Downwards
+mod Numbered
