@@ -1,7 +1,7 @@
 -- The entries of a journal, made again one after the other.
-use Rattle.std.proofs.Common.{◌≡◌, ℕ, zero, suc, ◌+◌, ◌-◌, ◌<◌, List, [], ◌∷◌, ◌++◌, drop, get_or, length, map, Bool, true, false, eq-eqb, refl, sym, ap, ◌∙◌}
+use Rattle.std.proofs.Common.{◌≡◌, ℕ, zero, suc, ◌+◌, ◌-◌, ◌<◌, ◌≤◌, List, [], ◌∷◌, ◌++◌, drop, get_or, length, map, Bool, true, false, eq-eqb, refl, sym, ap, ◌∙◌}
 use Rattle.std.proofs.Common.{subst, append_assoc, arith}
-use Rattle.std.proofs.lemmas.List.{append-nil, at_drop_more}
+use Rattle.std.proofs.lemmas.List.{append-nil, at_drop_more, drop_all}
 use Rattle.std.specs.List.{AllByRecursion, flat_map, list_any, range_with_len}
 use Rattle.std.specs.Prelude.{◌==◌, ◌||◌, slice_get}
 use Rattle.std.proofs.lemmas.Grind.{flat_map-append}
@@ -38,6 +38,27 @@ one_on layout entries index past x d h below is =
       next = subst (λ (y : Entry). IsHalfway layout entries (index + 1) (past ++ y ∷ [])) each.0.made
           (record { all = append_assoc past (x ∷ []) (drop (index + 1) entries) ∙ all; each = each.1 });
     }
+
+-- in a layout that is this one the next entry's event is in range
+pub next_in_range : (layout now : Layout) (entries : List Entry) (index : ℕ) (past : List Entry) (d : Entry) → now ≡ layout → IsHalfway layout entries index past →
+    index < length entries → is_in_range now (get_or entries index d).event ≡ true
+next_in_range layout now entries index past d same h below =
+    ap (λ (l : Layout). is_in_range l (get_or entries index d).event) same ∙ (one_on layout entries index past (get_or entries index d) d h below refl).in_range'
+
+-- one entry more is made of the next one's event
+pub one_made : (layout now : Layout) (entries : List Entry) (index : ℕ) (past after : List Entry) (d made : Entry) → now ≡ layout →
+    IsHalfway layout entries index past → index < length entries → made ≡ next_entry now past (get_or entries index d).event → after ≡ past ++ made ∷ [] →
+    IsHalfway layout entries (index + 1) after
+one_made layout now entries index past after d made same h below is on =
+    let x = get_or entries index d in
+    let e : after ≡ past ++ next_entry layout past x.event ∷ [] =
+    on ∙ ap (λ (y : Entry). past ++ y ∷ []) (is ∙ ap (λ (l : Layout). next_entry l past x.event) same) in
+    subst (λ (js : List Entry). IsHalfway layout entries (index + 1) js) (sym e) (one_on layout entries index past x d h below refl).next
+
+pub all_made : (layout : Layout) (entries : List Entry) (index : ℕ) (past : List Entry) → IsHalfway layout entries index past → length entries ≤ index →
+    past ≡ entries
+all_made layout entries index past h ended =
+    sym (append-nil past) ∙ ap (λ (xs : List Entry). past ++ xs) (sym (drop_all index entries ended)) ∙ h.all
 
 -- ---- the nodes, one after the other
 

@@ -190,9 +190,9 @@ fn follow(run: &mut ScriptedCluster, entries: &[Entry]) -> Result<(), NoMemory>
     ensures journal { OnOk result (run.new.journal ≡ entries.now) }
 {
     for entry in entries {
-        if run.step(entry.event).is_err() {
+        let Ok(_) = run.step(entry.event) else {
             return Err(NoMemory);
-        }
+        };
     }
     Ok(())
 }
