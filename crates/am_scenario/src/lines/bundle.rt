@@ -11,6 +11,7 @@ ghost use Rattle.am_scenario.specs.Lines.Declarations.{mask_at, members, has_twi
 ghost use Rattle.am_scenario.specs.Lines.Answers.{Yields, YieldsBehind};
 
 use crate::drafts::{Draft, Line, LineFault};
+use crate::lines::keyword::is_word;
 use crate::lines::places::end_word;
 use am_lexer::{What, next_word, take_byte, take_word};
 use am_names::{EndpointId, NodeId};
@@ -24,9 +25,9 @@ pub fn take_mask(rest: &[u8]) -> Result<(Mask, &[u8]), What>
     ensures { Gives (λ found. (found.0, words_of found.1.now)) result (mask_at (words_of rest.now)) }
 {
     let (word, rest) = take_word(rest)?;
-    if word == b"noevents".as_slice() {
+    if is_word(word, b"noevents".as_slice()) {
         Ok((Mask::NoEvents, rest))
-    } else if word == b"notempty".as_slice() {
+    } else if is_word(word, b"notempty".as_slice()) {
         Ok((Mask::NotEmpty, rest))
     } else {
         Err(What::UnknownWord)

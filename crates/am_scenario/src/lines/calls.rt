@@ -102,12 +102,12 @@ fn take_kind(rest: &[u8]) -> Result<(HandlerKind, &[u8]), What>
     ensures { Gives (λ found. (found.0, words_of found.1.now)) result (kind_at (words_of rest.now)) }
 {
     let (word, rest) = take_word(rest)?;
-    if word == b"note".as_slice() {
+    if is_word(word, b"note".as_slice()) {
         Ok((HandlerKind::Note, rest))
-    } else if word == b"echo".as_slice() {
+    } else if is_word(word, b"echo".as_slice()) {
         let (handler, rest) = take_byte(1, 15, rest)?;
         Ok((HandlerKind::Echo(handler), rest))
-    } else if word == b"add".as_slice() {
+    } else if is_word(word, b"add".as_slice()) {
         let (handler, rest) = take_byte(1, 15, rest)?;
         Ok((HandlerKind::Add(handler), rest))
     } else {

@@ -7,6 +7,7 @@ ghost use Rattle.am_scenario.specs.Drafts.Drafts.{said};
 ghost use Rattle.am_scenario.specs.Lines.Declarations.{disk_at, endpoint_line, thread_line, link_fault_at, plan_line, swap_fault_line};
 
 use crate::drafts::{Draft, Line};
+use crate::lines::keyword::is_word;
 use crate::lines::places::{take_node, take_tag};
 use am_lexer::{What, next_word, take_byte, take_end, take_u32, take_word};
 use am_names::EndpointId;
@@ -19,7 +20,7 @@ fn take_disk<'a>(draft: &Draft, rest: &'a [u8]) -> Result<(bool, &'a [u8]), What
     match next_word(rest) {
         None => Ok((false, rest)),
         Some((word, rest)) => {
-            if word != b"disk".as_slice() {
+            if !is_word(word, b"disk".as_slice()) {
                 return Err(What::UnknownWord);
             }
             match draft.settings.network {
@@ -76,11 +77,11 @@ fn take_link_fault(rest: &[u8]) -> Result<(LinkFault, &[u8]), What>
     ensures { Gives (λ found. (found.0, words_of found.1.now)) result (link_fault_at (words_of rest.now)) }
 {
     let (word, rest) = take_word(rest)?;
-    if word == b"lose".as_slice() {
+    if is_word(word, b"lose".as_slice()) {
         Ok((LinkFault::Lose, rest))
-    } else if word == b"repeat".as_slice() {
+    } else if is_word(word, b"repeat".as_slice()) {
         Ok((LinkFault::Repeat, rest))
-    } else if word == b"late".as_slice() {
+    } else if is_word(word, b"late".as_slice()) {
         let (by, rest) = take_byte(1, 16, rest)?;
         Ok((LinkFault::Late(by), rest))
     } else {

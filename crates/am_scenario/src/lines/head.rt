@@ -43,25 +43,25 @@ pub enum Head {
 fn setting_name_of(version: Option<Version>, word: &[u8]) -> Option<SettingName>
     ensures { result ≡ setting_name_of version word.now }
 {
-    if word == b"network".as_slice() {
+    if is_word(word, b"network".as_slice()) {
         Some(SettingName::Network)
-    } else if word == b"nodes".as_slice() {
+    } else if is_word(word, b"nodes".as_slice()) {
         Some(SettingName::Nodes)
-    } else if word == b"frames".as_slice() {
+    } else if is_word(word, b"frames".as_slice()) {
         Some(SettingName::Frames)
-    } else if word == b"channels".as_slice() {
+    } else if is_word(word, b"channels".as_slice()) {
         Some(SettingName::Channels)
-    } else if word == b"tries".as_slice() {
+    } else if is_word(word, b"tries".as_slice()) {
         Some(SettingName::Tries)
-    } else if word == b"bounces".as_slice() {
+    } else if is_word(word, b"bounces".as_slice()) {
         Some(SettingName::Bounces)
-    } else if word == b"keep".as_slice() {
+    } else if is_word(word, b"keep".as_slice()) {
         Some(SettingName::Keep)
-    } else if word == b"log".as_slice() {
+    } else if is_word(word, b"log".as_slice()) {
         Some(SettingName::Log)
-    } else if word == b"turns".as_slice() {
+    } else if is_word(word, b"turns".as_slice()) {
         Some(SettingName::Turns)
-    } else if word == b"pool".as_slice() {
+    } else if is_word(word, b"pool".as_slice()) {
         match version {
             Some(Version::Two) => Some(SettingName::Pool),
             _ => None,
@@ -75,15 +75,15 @@ fn setting_name_of(version: Option<Version>, word: &[u8]) -> Option<SettingName>
 fn declaration_of(word: &[u8]) -> Option<Head>
     ensures { result ≡ declaration_of word.now }
 {
-    if word == b"endpoint".as_slice() {
+    if is_word(word, b"endpoint".as_slice()) {
         Some(Head::Endpoint)
-    } else if word == b"bundle".as_slice() {
+    } else if is_word(word, b"bundle".as_slice()) {
         Some(Head::Bundle)
-    } else if word == b"thread".as_slice() {
+    } else if is_word(word, b"thread".as_slice()) {
         Some(Head::Thread)
-    } else if word == b"plan".as_slice() {
+    } else if is_word(word, b"plan".as_slice()) {
         Some(Head::Plan)
-    } else if word == b"swapfault".as_slice() {
+    } else if is_word(word, b"swapfault".as_slice()) {
         Some(Head::SwapFault)
     } else {
         None
@@ -107,7 +107,7 @@ fn actor_of(word: &[u8]) -> Option<Head>
 fn any_head_of(version: Option<Version>, word: &[u8]) -> Option<Head>
     ensures { result ≡ head_of version word.now }
 {
-    if word == b"am2".as_slice() {
+    if is_word(word, b"am2".as_slice()) {
         return Some(Head::Version);
     }
     match setting_name_of(version, word) {

@@ -7,6 +7,7 @@ ghost use Rattle.am_scenario.specs.Drafts.Drafts.{said};
 ghost use Rattle.am_scenario.specs.Lines.Places.{below, node_at, declared_end, end_word, end_at, bundle_at, tag_at, serial_of, serial_at, is_on, are_on};
 
 use crate::drafts::{Draft, Settings};
+use crate::lines::keyword::is_word;
 use am_lexer::{What, first_dot, parse_number, take_number, take_word};
 use am_names::{EndpointId, NodeId, Serial, Tag};
 use am_scenario_types::{Bundle, EndLine};
@@ -116,9 +117,9 @@ pub fn take_tag(rest: &[u8]) -> Result<(Tag, &[u8]), What>
     ensures { Gives (λ found. (found.0, words_of found.1.now)) result (tag_at (words_of rest.now)) }
 {
     let (word, rest) = take_word(rest)?;
-    if word == b"none".as_slice() {
+    if is_word(word, b"none".as_slice()) {
         Ok((Tag(0), rest))
-    } else if word == b"all".as_slice() {
+    } else if is_word(word, b"all".as_slice()) {
         Ok((Tag(u64::MAX), rest))
     } else {
         match parse_number(word) {

@@ -8,6 +8,7 @@ ghost use Rattle.am_scenario.specs.Lines.Answers.{Yields};
 
 use crate::drafts::{Calls, Draft, Line, LineFault};
 use crate::lines::calls::take_call;
+use crate::lines::keyword::is_word;
 use crate::lines::lined::lined;
 use crate::lines::places::take_bundle;
 use am_lexer::{What, take_end, take_word};
@@ -97,9 +98,9 @@ pub fn script_line(
         return Err(LineFault::What(What::Undeclared));
     };
     let (verb, rest) = take_word(rest)?;
-    if verb == b"pollb".as_slice() {
+    if is_word(verb, b"pollb".as_slice()) {
         poll_bundle_line(alloc, draft, thread, rest)
-    } else if verb == b"eventb".as_slice() {
+    } else if is_word(verb, b"eventb".as_slice()) {
         test_bundle_line(alloc, draft, thread, rest)
     } else {
         lined(thread_call_line(draft, thread, verb, rest))
