@@ -3,7 +3,7 @@
 ghost use Rattle.am_check_lines.specs.Reading.{Gives, words_behind, request_at, poll_at, set_tag_at, map_at, unmap_at, echo_at, add_at, kind_at, set_handler_at, give_up_at, close_at, mask_at, test_at, call_at};
 
 use crate::numbers::{take_byte, take_end, take_long, take_serial, take_tag};
-use crate::words::take_word;
+use crate::words::{is_word, take_word};
 use am_names::{EndpointId, Words};
 use am_office_entries::{Call, HandlerKind, Mask};
 
@@ -93,11 +93,11 @@ fn take_kind(rest: &[u8]) -> Option<(HandlerKind, &[u8])>
     ensures { Gives (λ found. (found.0, words_behind found.1.now)) result (kind_at (words_behind rest.now)) }
 {
     let (word, rest) = take_word(rest)?;
-    if word == b"note".as_slice() {
+    if is_word(word, b"note".as_slice()) {
         Some((HandlerKind::Note, rest))
-    } else if word == b"echo".as_slice() {
+    } else if is_word(word, b"echo".as_slice()) {
         take_echo(rest)
-    } else if word == b"add".as_slice() {
+    } else if is_word(word, b"add".as_slice()) {
         take_add(rest)
     } else {
         None
@@ -136,9 +136,9 @@ fn take_mask(rest: &[u8]) -> Option<(Mask, &[u8])>
     ensures { Gives (λ found. (found.0, words_behind found.1.now)) result (mask_at (words_behind rest.now)) }
 {
     let (word, rest) = take_word(rest)?;
-    if word == b"noevents".as_slice() {
+    if is_word(word, b"noevents".as_slice()) {
         Some((Mask::NoEvents, rest))
-    } else if word == b"notempty".as_slice() {
+    } else if is_word(word, b"notempty".as_slice()) {
         Some((Mask::NotEmpty, rest))
     } else {
         None
@@ -159,23 +159,23 @@ fn take_test(rest: &[u8]) -> Option<Called<'_>>
 pub fn take_call<'a>(verb: &[u8], rest: &'a [u8]) -> Option<Called<'a>>
     ensures { Gives (λ found. (found.0, words_behind found.1.now)) result (call_at verb.now (words_behind rest.now)) }
 {
-    if verb == b"request".as_slice() {
+    if is_word(verb, b"request".as_slice()) {
         take_request(rest)
-    } else if verb == b"poll".as_slice() {
+    } else if is_word(verb, b"poll".as_slice()) {
         take_poll(rest)
-    } else if verb == b"tag".as_slice() {
+    } else if is_word(verb, b"tag".as_slice()) {
         take_set_tag(rest)
-    } else if verb == b"map".as_slice() {
+    } else if is_word(verb, b"map".as_slice()) {
         take_map(rest)
-    } else if verb == b"unmap".as_slice() {
+    } else if is_word(verb, b"unmap".as_slice()) {
         take_unmap(rest)
-    } else if verb == b"handler".as_slice() {
+    } else if is_word(verb, b"handler".as_slice()) {
         take_set_handler(rest)
-    } else if verb == b"giveup".as_slice() {
+    } else if is_word(verb, b"giveup".as_slice()) {
         take_give_up(rest)
-    } else if verb == b"close".as_slice() {
+    } else if is_word(verb, b"close".as_slice()) {
         take_close(rest)
-    } else if verb == b"event".as_slice() {
+    } else if is_word(verb, b"event".as_slice()) {
         take_test(rest)
     } else {
         None

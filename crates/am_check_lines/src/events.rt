@@ -1,11 +1,12 @@
 //! The words of an event: who acts, a verb and the words behind it.
 
-ghost use Rattle.am_check_lines.specs.Reading.{Gives, words_behind, words_in, lettered, head_of, call_event_at, want_at, thread_at, carry_at, outside_at, bind_at, expire_at, receive_at, interface_at, load_at, driver_at, happening_at, event_at};
+ghost use Rattle.am_check_lines.specs.Reading.{Gives, words_behind, words_in, lettered, head_of, call_event_at, want_at, thread_at, carry_at, outside_at, bind_at, expire_at, receive_at, interface_at, load_at, move_at, driver_at, happening_at, event_at};
+ghost use Rattle.am_office_entries.specs.declared.Event.TheVariants as Events;
 ghost use Rattle.std.specs.Prelude.{◌≡◌};
 
 use crate::calls::take_call;
 use crate::numbers::{byte_of, take_byte, take_count, take_end, take_node};
-use crate::words::{Head, split_word, take_word};
+use crate::words::{Head, is_word, split_word, take_word};
 use am_names::NodeId;
 use am_office_entries::{Actor, Event};
 
@@ -53,7 +54,7 @@ fn take_want(actor: Actor, rest: &[u8]) -> Option<(Event, &[u8])>
 fn take_of_thread<'a>(thread: u8, verb: &[u8], rest: &'a [u8]) -> Option<(Event, &'a [u8])>
     ensures { Gives (λ found. (found.0, words_behind found.1.now)) result (thread_at thread verb.now (words_behind rest.now)) }
 {
-    if verb == b"want".as_slice() {
+    if is_word(verb, b"want".as_slice()) {
         take_want(Actor::Thread(thread), rest)
     } else {
         take_call_event(Actor::Thread(thread), verb, rest)
@@ -72,9 +73,9 @@ fn take_carry(rest: &[u8]) -> Option<(Event, &[u8])>
 fn take_outside<'a>(verb: &[u8], rest: &'a [u8]) -> Option<(Event, &'a [u8])>
     ensures { Gives (λ found. (found.0, words_behind found.1.now)) result (outside_at verb.now (words_behind rest.now)) }
 {
-    if verb == b"carry".as_slice() {
+    if is_word(verb, b"carry".as_slice()) {
         take_carry(rest)
-    } else if verb == b"want".as_slice() {
+    } else if is_word(verb, b"want".as_slice()) {
         take_want(Actor::Outside, rest)
     } else {
         take_call_event(Actor::Outside, verb, rest)
@@ -116,11 +117,11 @@ fn take_receive(node: NodeId, rest: &[u8]) -> Option<(Event, &[u8])>
 fn take_of_interface<'a>(node: NodeId, verb: &[u8], rest: &'a [u8]) -> Option<(Event, &'a [u8])>
     ensures { Gives (λ found. (found.0, words_behind found.1.now)) result (interface_at node verb.now (words_behind rest.now)) }
 {
-    if verb == b"bind".as_slice() {
+    if is_word(verb, b"bind".as_slice()) {
         take_bind(node, rest)
-    } else if verb == b"expire".as_slice() {
+    } else if is_word(verb, b"expire".as_slice()) {
         take_expire(node, rest)
-    } else if verb == b"receive".as_slice() {
+    } else if is_word(verb, b"receive".as_slice()) {
         take_receive(node, rest)
     } else {
         None
@@ -136,24 +137,52 @@ fn take_load(node: NodeId, rest: &[u8]) -> Option<(Event, &[u8])>
     Some((Event::Load { node, end, frame }, rest))
 }
 
-#[tactic(auto, unfolding(crate::specs::Reading::driver_at, crate::specs::Reading::move_at))]
+#[tactic(auto, unfolding(crate::specs::Reading::move_at))]
+fn take_drain(node: NodeId, rest: &[u8]) -> Option<(Event, &[u8])>
+    ensures { Gives (λ found. (found.0, words_behind found.1.now)) result (move_at (λ end. Events.Drain node end) (words_behind rest.now)) }
+{
+    let (end, rest) = take_end(rest)?;
+    Some((Event::Drain { node, end }, rest))
+}
+
+#[tactic(auto, unfolding(crate::specs::Reading::move_at))]
+fn take_unload(node: NodeId, rest: &[u8]) -> Option<(Event, &[u8])>
+    ensures { Gives (λ found. (found.0, words_behind found.1.now)) result (move_at (λ end. Events.Unload node end) (words_behind rest.now)) }
+{
+    let (end, rest) = take_end(rest)?;
+    Some((Event::Unload { node, end }, rest))
+}
+
+#[tactic(auto, unfolding(crate::specs::Reading::move_at))]
+fn take_page_out(node: NodeId, rest: &[u8]) -> Option<(Event, &[u8])>
+    ensures { Gives (λ found. (found.0, words_behind found.1.now)) result (move_at (λ end. Events.PageOut node end) (words_behind rest.now)) }
+{
+    let (end, rest) = take_end(rest)?;
+    Some((Event::PageOut { node, end }, rest))
+}
+
+#[tactic(auto, unfolding(crate::specs::Reading::move_at))]
+fn take_page_in(node: NodeId, rest: &[u8]) -> Option<(Event, &[u8])>
+    ensures { Gives (λ found. (found.0, words_behind found.1.now)) result (move_at (λ end. Events.PageIn node end) (words_behind rest.now)) }
+{
+    let (end, rest) = take_end(rest)?;
+    Some((Event::PageIn { node, end }, rest))
+}
+
+#[tactic(auto, unfolding(crate::specs::Reading::driver_at))]
 fn take_of_driver<'a>(node: NodeId, verb: &[u8], rest: &'a [u8]) -> Option<(Event, &'a [u8])>
     ensures { Gives (λ found. (found.0, words_behind found.1.now)) result (driver_at node verb.now (words_behind rest.now)) }
 {
-    if verb == b"drain".as_slice() {
-        let (end, rest) = take_end(rest)?;
-        Some((Event::Drain { node, end }, rest))
-    } else if verb == b"unload".as_slice() {
-        let (end, rest) = take_end(rest)?;
-        Some((Event::Unload { node, end }, rest))
-    } else if verb == b"load".as_slice() {
+    if is_word(verb, b"drain".as_slice()) {
+        take_drain(node, rest)
+    } else if is_word(verb, b"unload".as_slice()) {
+        take_unload(node, rest)
+    } else if is_word(verb, b"load".as_slice()) {
         take_load(node, rest)
-    } else if verb == b"pageout".as_slice() {
-        let (end, rest) = take_end(rest)?;
-        Some((Event::PageOut { node, end }, rest))
-    } else if verb == b"pagein".as_slice() {
-        let (end, rest) = take_end(rest)?;
-        Some((Event::PageIn { node, end }, rest))
+    } else if is_word(verb, b"pageout".as_slice()) {
+        take_page_out(node, rest)
+    } else if is_word(verb, b"pagein".as_slice()) {
+        take_page_in(node, rest)
     } else {
         None
     }

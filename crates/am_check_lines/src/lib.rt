@@ -13,7 +13,7 @@ mod numbers;
 mod words;
 
 use crate::events::take_event;
-use crate::words::take_word;
+use crate::words::{is_word, take_word};
 use am_office_entries::Event;
 pub use numbers::printed_number;
 
@@ -38,7 +38,7 @@ fn is_right_side(rest: &[u8]) -> bool
 {
     match take_word(rest) {
         None => true,
-        Some((arrow, rest)) => arrow == b"->".as_slice() && has_more(rest),
+        Some((arrow, rest)) => is_word(arrow, b"->".as_slice()) && has_more(rest),
     }
 }
 

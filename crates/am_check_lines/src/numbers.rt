@@ -3,7 +3,7 @@
 ghost use Rattle.std.specs.Prelude.{◌≡◌};
 ghost use Rattle.am_check_lines.specs.Reading.{Gives, has_no_leading_zero, printed_number, number_up_to, byte_at, count_at, long_at, end_at, node_at, tag_of, tag_at, serial_of, serial_at, words_behind};
 
-use crate::words::take_word;
+use crate::words::{is_word, take_word};
 use am_lexer::{first_dot, parse_number};
 use am_names::{EndpointId, NodeId, Serial, Tag};
 
@@ -106,10 +106,10 @@ pub fn take_node(rest: &[u8]) -> Option<(NodeId, &[u8])>
 fn tag_of(word: &[u8]) -> Option<Tag>
     ensures { result ≡ tag_of word.now }
 {
-    if word == b"none".as_slice() {
+    if is_word(word, b"none".as_slice()) {
         return Some(Tag(0));
     }
-    if word == b"all".as_slice() {
+    if is_word(word, b"all".as_slice()) {
         return Some(Tag(u64::MAX));
     }
     let number = printed_number(word)?;

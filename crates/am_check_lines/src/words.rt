@@ -1,6 +1,7 @@
 //! The words of a line, between single spaces.
 
 ghost use Rattle.std.specs.Prelude.{◌≡◌, [], ◌∷◌, MatchOption};
+ghost use Rattle.std.specs.Str.{bytes_eq};
 ghost use Rattle.am_check_lines.specs.Reading.{words_behind, words_in};
 
 use am_lexer::first_space;
@@ -13,6 +14,14 @@ pub enum Head {
     OfThread(u8),
     OfInterface(NodeId),
     OfDriver(NodeId),
+}
+
+/// Whether a word is a keyword.
+#[inline(always)]
+pub fn is_word(word: &[u8], keyword: &[u8]) -> bool
+    ensures { result ≡ bytes_eq word.now keyword.now }
+{
+    word == keyword
 }
 
 /// The first word of a text, which may be empty, and what stands behind it: nothing, or a space and more.
