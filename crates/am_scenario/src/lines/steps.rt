@@ -2,8 +2,9 @@
 
 ghost use Rattle.am_lexer.specs.Text.{words_of};
 ghost use Rattle.am_lexer.specs.Fields.{Gives};
+ghost use Rattle.am_office_entries.specs.declared.Event.TheVariants as Events;
 ghost use Rattle.am_scenario.specs.Drafts.Drafts.{said};
-ghost use Rattle.am_scenario.specs.Lines.Steps.{step, outside_line, bind_line, expire_line, receive_line, interface_line, load_line, drive_line, driver_line, head_node};
+ghost use Rattle.am_scenario.specs.Lines.Steps.{step, end_line, outside_line, bind_line, expire_line, receive_line, interface_line, load_line, drive_line, driver_line, head_node};
 
 use crate::drafts::{Draft, Line};
 use crate::lines::calls::take_call;
@@ -27,6 +28,20 @@ fn step(draft: &Draft, event: Event, rest: &[u8]) -> Result<Line, What>
     }
 }
 
+fn carry_line(draft: &Draft, rest: &[u8]) -> Result<Line, What>
+    ensures { Gives (λ line. line) result (end_line (said draft.now) Events.Carry (words_of rest.now)) }
+{
+    let (end, rest) = take_end_of(draft, None, rest)?;
+    step(draft, Event::Carry { end }, rest)
+}
+
+fn want_line(draft: &Draft, actor: Actor, rest: &[u8]) -> Result<Line, What>
+    ensures { Gives (λ line. line) result (end_line (said draft.now) (Events.Want actor) (words_of rest.now)) }
+{
+    let (end, rest) = take_end_of(draft, None, rest)?;
+    step(draft, Event::Want { actor, end }, rest)
+}
+
 /// A step that no node makes, behind its first word, or its first fault.
 #[tactic(auto, unfolding(crate::specs::Lines::Steps::outside_line))]
 pub fn outside_line(draft: &Draft, rest: &[u8]) -> Result<Line, What>
@@ -35,11 +50,9 @@ pub fn outside_line(draft: &Draft, rest: &[u8]) -> Result<Line, What>
     let actor = Actor::Outside;
     let (verb, rest) = take_word(rest)?;
     if is_word(verb, b"carry".as_slice()) {
-        let (end, rest) = take_end_of(draft, None, rest)?;
-        step(draft, Event::Carry { end }, rest)
+        carry_line(draft, rest)
     } else if is_word(verb, b"want".as_slice()) {
-        let (end, rest) = take_end_of(draft, None, rest)?;
-        step(draft, Event::Want { actor, end }, rest)
+        want_line(draft, actor, rest)
     } else {
         let ((end, call), rest) = take_call(draft, None, verb, rest)?;
         step(draft, Event::Call { actor, end, call }, rest)
@@ -117,24 +130,48 @@ fn load_line(draft: &Draft, node: NodeId, rest: &[u8]) -> Result<Line, What>
     step(draft, Event::Load { node, end, frame }, rest)
 }
 
+fn drain_line(draft: &Draft, node: NodeId, rest: &[u8]) -> Result<Line, What>
+    ensures { Gives (λ line. line) result (end_line (said draft.now) (Events.Drain node) (words_of rest.now)) }
+{
+    let (end, rest) = take_end_of(draft, None, rest)?;
+    step(draft, Event::Drain { node, end }, rest)
+}
+
+fn unload_line(draft: &Draft, node: NodeId, rest: &[u8]) -> Result<Line, What>
+    ensures { Gives (λ line. line) result (end_line (said draft.now) (Events.Unload node) (words_of rest.now)) }
+{
+    let (end, rest) = take_end_of(draft, None, rest)?;
+    step(draft, Event::Unload { node, end }, rest)
+}
+
+fn page_out_line(draft: &Draft, node: NodeId, rest: &[u8]) -> Result<Line, What>
+    ensures { Gives (λ line. line) result (end_line (said draft.now) (Events.PageOut node) (words_of rest.now)) }
+{
+    let (end, rest) = take_end_of(draft, None, rest)?;
+    step(draft, Event::PageOut { node, end }, rest)
+}
+
+fn page_in_line(draft: &Draft, node: NodeId, rest: &[u8]) -> Result<Line, What>
+    ensures { Gives (λ line. line) result (end_line (said draft.now) (Events.PageIn node) (words_of rest.now)) }
+{
+    let (end, rest) = take_end_of(draft, None, rest)?;
+    step(draft, Event::PageIn { node, end }, rest)
+}
+
 #[tactic(auto, unfolding(crate::specs::Lines::Steps::drive_line))]
 fn drive_line(draft: &Draft, node: NodeId, verb: &[u8], rest: &[u8]) -> Result<Line, What>
     ensures { Gives (λ line. line) result (drive_line (said draft.now) node verb.now (words_of rest.now)) }
 {
     if is_word(verb, b"drain".as_slice()) {
-        let (end, rest) = take_end_of(draft, None, rest)?;
-        step(draft, Event::Drain { node, end }, rest)
+        drain_line(draft, node, rest)
     } else if is_word(verb, b"unload".as_slice()) {
-        let (end, rest) = take_end_of(draft, None, rest)?;
-        step(draft, Event::Unload { node, end }, rest)
+        unload_line(draft, node, rest)
     } else if is_word(verb, b"load".as_slice()) {
         load_line(draft, node, rest)
     } else if is_word(verb, b"pageout".as_slice()) {
-        let (end, rest) = take_end_of(draft, None, rest)?;
-        step(draft, Event::PageOut { node, end }, rest)
+        page_out_line(draft, node, rest)
     } else if is_word(verb, b"pagein".as_slice()) {
-        let (end, rest) = take_end_of(draft, None, rest)?;
-        step(draft, Event::PageIn { node, end }, rest)
+        page_in_line(draft, node, rest)
     } else {
         Err(What::UnknownWord)
     }
