@@ -5,3 +5,4 @@ pub mod Back
 pub mod Free
 pub mod Sound
 pub mod Lines
+mod Requests

@@ -10,6 +10,7 @@ use Rattle.am_names.specs.declared.EndpointId.{EndpointId}
 use Rattle.am_names.specs.declared.NodeId.{NodeId}
 use Rattle.am_names.specs.declared.Tag.{Tag}
 use Rattle.am_names.specs.declared.Serial.{Serial}
+use Rattle.am_names.specs.declared.Words.{Words}
 use Rattle.am_office_entries.specs.declared.Actor.{Actor}
 use Rattle.am_office_entries.specs.declared.Actor.TheVariants as Actors
 use Rattle.am_office_entries.specs.declared.HandlerKind.{HandlerKind}
@@ -126,6 +127,15 @@ lettered letter digits = do
 unfoldable pub head_of : Word → Option Head
 head_of [] = None
 head_of (letter ∷ digits) = if bytes_eq (letter ∷ digits) (codes "x") then Some Heads.Outside else lettered letter digits
+
+-- A B C D
+unfoldable pub four_at : List Word → Read Words
+four_at words = do
+  a ← long_at words
+  b ← long_at a.1
+  c ← long_at b.1
+  d ← long_at c.1
+  Some (record { a = a.0; b = b.0; c = c.0; d = d.0 }, d.1)
 
 -- request E I H A B C D
 unfoldable pub request_at : List Word → Read (EndpointId × Call)

@@ -1,6 +1,6 @@
 //! The words of a call behind its verb.
 
-ghost use Rattle.am_check_lines.specs.Reading.{Gives, words_behind, request_at, poll_at, set_tag_at, map_at, unmap_at, echo_at, add_at, kind_at, set_handler_at, give_up_at, close_at, mask_at, test_at, call_at};
+ghost use Rattle.am_check_lines.specs.Reading.{Gives, words_behind, four_at, request_at, poll_at, set_tag_at, map_at, unmap_at, echo_at, add_at, kind_at, set_handler_at, give_up_at, close_at, mask_at, test_at, call_at};
 
 use crate::numbers::{take_byte, take_end, take_long, take_serial, take_tag};
 use crate::words::{is_word, take_word};
@@ -9,21 +9,30 @@ use am_office_entries::{Call, HandlerKind, Mask};
 
 type Called<'a> = ((EndpointId, Call), &'a [u8]);
 
-#[tactic(auto, unfolding(crate::specs::Reading::request_at))]
+// The four words of a request.
+#[tactic(auto, unfolding(crate::specs::Reading::four_at))]
+fn take_four(rest: &[u8]) -> Option<(Words, &[u8])>
+    ensures { Gives (λ found. (found.0, words_behind found.1.now)) result (four_at (words_behind rest.now)) }
+{
+    let (a, rest) = take_long(rest)?;
+    let (b, rest) = take_long(rest)?;
+    let (c, rest) = take_long(rest)?;
+    let (d, rest) = take_long(rest)?;
+    Some((Words { a, b, c, d }, rest))
+}
+
+#[tactic(auto, using(crate::proofs::Requests::by_four))]
 fn take_request(rest: &[u8]) -> Option<Called<'_>>
     ensures { Gives (λ found. (found.0, words_behind found.1.now)) result (request_at (words_behind rest.now)) }
 {
     let (end, rest) = take_end(rest)?;
     let (index, rest) = take_byte(rest)?;
     let (handler, rest) = take_byte(rest)?;
-    let (a, rest) = take_long(rest)?;
-    let (b, rest) = take_long(rest)?;
-    let (c, rest) = take_long(rest)?;
-    let (d, rest) = take_long(rest)?;
+    let (words, rest) = take_four(rest)?;
     let call = Call::Request {
         index,
         handler,
-        words: Words { a, b, c, d },
+        words,
     };
     Some(((end, call), rest))
 }
