@@ -1,9 +1,7 @@
 -- A request, its four words read together.
-use Rattle.std.proofs.Common.{◌≡◌, ℕ, List, Option, Some, None, refl, sym, ◌∙◌}
+use Rattle.std.proofs.Common.{◌≡◌, List, Option, Some, None, refl, sym, ◌∙◌}
 use Rattle.am_lemmas.specs.Options.{◌>>=◌}
-use Rattle.am_names.specs.declared.EndpointId.{EndpointId}
 use Rattle.am_names.specs.declared.Words.{Words}
-use Rattle.am_office_entries.specs.declared.Call.{Call}
 use Rattle.am_office_entries.specs.declared.Call.TheVariants as Calls
 use Rattle.am_office_text.specs.Words.{Word}
 use Rattle.am_check_lines.specs.Reading.{byte_at, long_at, end_at, four_at, request_at}

@@ -6,6 +6,7 @@ pub mod Comments
 pub mod Members
 mod Keywords
 mod Ends
+mod Requests
 mod Actors
 pub mod Meets
 pub mod Words

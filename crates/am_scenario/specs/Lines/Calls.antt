@@ -6,6 +6,7 @@ use Rattle.am_lexer.specs.declared.what.What.TheVariants.{UnknownWord}
 use Rattle.am_lexer.specs.Fields.{◌>>=◌, word_at, number_at, within}
 use Rattle.am_names.specs.declared.EndpointId.{EndpointId}
 use Rattle.am_names.specs.declared.NodeId.{NodeId}
+use Rattle.am_names.specs.declared.Words.{Words}
 use Rattle.am_office_entries.specs.declared.Call.{Call}
 use Rattle.am_office_entries.specs.declared.Call.TheVariants.{Request, Poll, SetTag, Map, Unmap, SetHandler, GiveUp, Close, Test}
 use Rattle.am_office_entries.specs.declared.HandlerKind.{HandlerKind}
@@ -15,6 +16,15 @@ use Rattle.am_scenario.specs.Drafts.Said.{Said}
 use Rattle.am_scenario.specs.Lines.Heads.{knows_pools}
 use Rattle.am_scenario.specs.Lines.Places.{end_at, tag_at, serial_at}
 use Rattle.am_scenario.specs.Lines.Declarations.{mask_at}
+
+-- A B C D
+unfoldable pub four_at : List (List ℕ) → Result (Words × List (List ℕ)) What
+four_at words = do
+  a ← number_at words
+  b ← number_at a.1
+  c ← number_at b.1
+  d ← number_at c.1
+  Ok (record { a = a.0; b = b.0; c = c.0; d = d.0 }, d.1)
 
 -- request E I H A B C D
 unfoldable pub request_at : Said → Option NodeId → List (List ℕ) → Result ((EndpointId × Call) × List (List ℕ)) What

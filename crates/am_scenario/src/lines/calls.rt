@@ -5,7 +5,7 @@ ghost use Rattle.std.specs.Str.{bytes_eq};
 ghost use Rattle.am_lexer.specs.Text.{words_of};
 ghost use Rattle.am_lexer.specs.Fields.{Gives};
 ghost use Rattle.am_scenario.specs.Drafts.Drafts.{said};
-ghost use Rattle.am_scenario.specs.Lines.Calls.{least_share, request_at, poll_at, set_tag_at, map_at, unmap_at, kind_at, set_handler_at, give_up_at, close_at, test_at, call_at};
+ghost use Rattle.am_scenario.specs.Lines.Calls.{least_share, four_at, request_at, poll_at, set_tag_at, map_at, unmap_at, kind_at, set_handler_at, give_up_at, close_at, test_at, call_at};
 
 use crate::drafts::{Draft, Version};
 use crate::lines::bundle::take_mask;
@@ -17,7 +17,20 @@ use am_office_entries::{Call, HandlerKind};
 
 type Called<'a> = ((EndpointId, Call), &'a [u8]);
 
-#[tactic(auto, unfolding(crate::specs::Lines::Calls::request_at))]
+// The four words of a request.
+#[inline(always)]
+#[tactic(auto, unfolding(crate::specs::Lines::Calls::four_at))]
+fn take_four(rest: &[u8]) -> Result<(Words, &[u8]), What>
+    ensures { Gives (λ found. (found.0, words_of found.1.now)) result (four_at (words_of rest.now)) }
+{
+    let (a, rest) = take_number(rest)?;
+    let (b, rest) = take_number(rest)?;
+    let (c, rest) = take_number(rest)?;
+    let (d, rest) = take_number(rest)?;
+    Ok((Words { a, b, c, d }, rest))
+}
+
+#[tactic(auto, using(crate::proofs::Requests::by_four))]
 fn take_request<'a>(
     draft: &Draft,
     wanted: Option<NodeId>,
@@ -28,14 +41,11 @@ fn take_request<'a>(
     let (end, rest) = take_end_of(draft, wanted, rest)?;
     let (index, rest) = take_byte(0, 255, rest)?;
     let (handler, rest) = take_byte(0, 255, rest)?;
-    let (a, rest) = take_number(rest)?;
-    let (b, rest) = take_number(rest)?;
-    let (c, rest) = take_number(rest)?;
-    let (d, rest) = take_number(rest)?;
+    let (words, rest) = take_four(rest)?;
     let call = Call::Request {
         index,
         handler,
-        words: Words { a, b, c, d },
+        words,
     };
     Ok(((end, call), rest))
 }
