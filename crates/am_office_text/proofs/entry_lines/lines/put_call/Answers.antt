@@ -18,3 +18,27 @@ unfolding call spaced
 returns-in-Poll-clause-ok c =
     let counted = rw c.from.ensures at c.put_counted.ensures.ok in
     rw c.in-Poll.is (whole_text _ _ _ (codes " poll") (spaced (decimal c.args.end.0 ∷ [])) counted)
+
+pub returns-in-SetTag-clause-ok : goal.returns-in-SetTag-clause-ok
+unfolding call
+returns-in-SetTag-clause-ok c =
+    let words = rw c.small-own.ensures at c.put_spaced.ensures.ok in
+    rw c.in-SetTag.is words
+
+pub returns-in-Unmap-clause-ok : goal.returns-in-Unmap-clause-ok
+unfolding call
+returns-in-Unmap-clause-ok c =
+    let words = rw (c.small-own.ensures, c.small-in-Unmap.ensures) at c.put_spaced-in-Unmap.ensures.ok in
+    rw c.in-Unmap.is words
+
+pub returns-in-GiveUp-clause-ok : goal.returns-in-GiveUp-clause-ok
+unfolding call
+returns-in-GiveUp-clause-ok c =
+    let words = rw c.small-own.ensures at c.put_spaced-in-GiveUp.ensures.ok in
+    rw c.in-GiveUp.is words
+
+pub returns-in-Close-clause-ok : goal.returns-in-Close-clause-ok
+unfolding call
+returns-in-Close-clause-ok c =
+    let words = rw c.small-own.ensures at c.put_spaced-in-Close.ensures.ok in
+    rw c.in-Close.is words
