@@ -1,8 +1,9 @@
 -- A cluster as it begins.
 use Rattle.std.specs.Prelude.{slice_get, IfSome, IsTrue}
 use Rattle.std.specs.List.{AllPairs, All, find}
-use Rattle.std.proofs.Common.{Option, None, ◌≤◌, ◌≡◌, ℕ, zero, suc, ◌<◌, Bool, true, false, cond, List, [], ◌∷◌, map, length, Some, refl, sym, ap, ◌∙◌, subst}
+use Rattle.std.proofs.Common.{Option, None, ◌≤◌, ◌≡◌, ℕ, zero, suc, ◌+◌, ◌++◌, ◌<◌, take, get_or, Bool, true, false, cond, List, [], ◌∷◌, map, length, Some, refl, sym, ap, ◌∙◌, subst}
 use Rattle.std.proofs.Common.{arith, eqb-true}
+use Rattle.std.proofs.lemmas.List.{map-append, map_more}
 use Rattle.std.proofs.lemmas.Option.{slice_get_within, get_or_from_slice_get}
 use Rattle.am_names.specs.declared.EndpointId.{EndpointId}
 use Rattle.am_names.specs.Names.{same_end}
@@ -17,7 +18,8 @@ use Rattle.am_scenario_types.specs.declared.parts.Network.TheVariants as Network
 use Rattle.am_scenario_types.specs.Lawful.{IsLawfulEnd}
 use Rattle.am_model_scripts.specs.Layout.{is_direct, setting_of}
 use Rattle.am_machine.specs.declared.settings.Settings.{Settings}
-use Rattle.am_driver_moves.specs.Logs.{EndLog}
+use Rattle.am_endpoint.specs.View.{EndpointView}
+use Rattle.am_driver_moves.specs.Logs.{EndLog, kept}
 use Rattle.am_machine.specs.Ends.{setting_in}
 use Rattle.am_machine.specs.Kept.{IsOwn, IsShort, IsTied, layout_in}
 use Rattle.am_iface.specs.View.{InterfaceView}
@@ -25,6 +27,16 @@ use Rattle.am_machine.specs.Beginnings.{opened}
 use Rattle.am_machine.specs.Homes.{AreFresh}
 use Rattle.am_machine.specs.Interfaces.{AreInterfaces}
 use Rattle.am_machine.proofs.Homes.{home_told}
+
+-- one endpoint more was opened
+pub opened_more : (s : Settings) (lines : List EndLine) (k : ℕ) (d : EndLine) (vs us : List EndpointView) (v : EndpointView) → k < length lines →
+    map kept vs ≡ map (opened s) (take k lines) → kept v ≡ opened s (get_or lines k d) → us ≡ vs ++ v ∷ [] →
+    map kept us ≡ map (opened s) (take (k + 1) lines)
+opened_more s lines k d vs us v lt before is pushed =
+    ap (λ (l : List EndpointView). map kept l) pushed ∙ map-append kept vs (v ∷ [])
+    ∙ ap (λ (l : List EndLog). l ++ kept v ∷ []) before
+    ∙ ap (λ (e : EndLog). map (opened s) (take k lines) ++ e ∷ []) is
+    ∙ sym (map_more (opened s) lines k d lt)
 
 -- the lines rise by their numbers
 abbrev pub Rise : List EndLine → Type 0

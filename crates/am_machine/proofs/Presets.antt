@@ -1,10 +1,10 @@
 -- The swaps of a cluster, as they begin.
 use Rattle.std.specs.Prelude.{OnOk, Result, Ok, Err, slice_get, slice_index_or, take}
 use Rattle.std.specs.List.{filter, find}
-use Rattle.std.proofs.Common.{◌≡◌, ⊎_elim, ℕ, zero, suc, ◌+◌, ◌<◌, ◌^◌, Bool, true, false, cond, List, [], ◌∷◌, ◌++◌, map, length, Option, Some, refl, sym, ap}
+use Rattle.std.proofs.Common.{◌≡◌, ⊎_elim, ℕ, zero, suc, ◌+◌, get_or, ◌<◌, ◌^◌, Bool, true, false, cond, List, [], ◌∷◌, ◌++◌, map, length, Option, Some, refl, sym, ap}
 use Rattle.std.proofs.Common.{◌∙◌, subst, arith, true≢false, eqb-true, eq-eqb, if◌then◌else◌}
 use Rattle.std.proofs.lemmas.Bool.{and_from}
-use Rattle.std.proofs.lemmas.List.{length_push}
+use Rattle.std.proofs.lemmas.List.{length_push, take_more}
 use Rattle.am_lemmas.proofs.Lists.{slice_get-push_cases}
 use Rattle.am_names.specs.declared.EndpointId.{EndpointId}
 use Rattle.am_names.specs.declared.NodeId.{NodeId}
@@ -76,12 +76,25 @@ fails_push node (y ∷ xs) x t is = by_test (is_of_node node y) t (fails_push no
     by_test false true more = more
     by_test false false more = more
 
-pub fails_in : (node : NodeId) (xs : List FaultLine) (x : FaultLine) → is_of_node node x ≡ true →
+fails_in : (node : NodeId) (xs : List FaultLine) (x : FaultLine) → is_of_node node x ≡ true →
     fails_of node (xs ++ x ∷ []) ≡ fails_of node xs ++ x.number ∷ []
 fails_in node xs x is = fails_push node xs x true is
 
-pub fails_out : (node : NodeId) (xs : List FaultLine) (x : FaultLine) → is_of_node node x ≡ false → fails_of node (xs ++ x ∷ []) ≡ fails_of node xs
+fails_out : (node : NodeId) (xs : List FaultLine) (x : FaultLine) → is_of_node node x ≡ false → fails_of node (xs ++ x ∷ []) ≡ fails_of node xs
 fails_out node xs x is = fails_push node xs x false is
+
+-- one fault more was read
+pub more_in : (node : NodeId) (faults : List FaultLine) (k : ℕ) (d : FaultLine) (xs ys : List ℕ) → k < length faults → xs ≡ fails_of node (take k faults) →
+    is_of_node node (get_or faults k d) ≡ true → ys ≡ xs ++ (get_or faults k d).number ∷ [] → ys ≡ fails_of node (take (k + 1) faults)
+more_in node faults k d xs ys lt before is pushed =
+    pushed ∙ ap (λ (l : List ℕ). l ++ (get_or faults k d).number ∷ []) before ∙ sym (fails_in node (take k faults) (get_or faults k d) is)
+    ∙ ap (λ (fs : List FaultLine). fails_of node fs) (sym (take_more faults k d lt))
+
+pub more_out : (node : NodeId) (faults : List FaultLine) (k : ℕ) (d : FaultLine) (xs ys : List ℕ) → k < length faults → xs ≡ fails_of node (take k faults) →
+    is_of_node node (get_or faults k d) ≡ false → ys ≡ xs → ys ≡ fails_of node (take (k + 1) faults)
+more_out node faults k d xs ys lt before is same =
+    same ∙ before ∙ sym (fails_out node (take k faults) (get_or faults k d) is)
+    ∙ ap (λ (fs : List FaultLine). fails_of node fs) (sym (take_more faults k d lt))
 
 pub opened_begin : (faults : List FaultLine) (lines : List EndLine) → AreOpenedUpTo faults lines 0 []
 opened_begin faults lines = record { all = refl; each = λ k s h. absurd (cc) }

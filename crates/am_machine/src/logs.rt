@@ -12,7 +12,10 @@ use am_office_entries::{Entry, NoMemory};
 use std::alloc::Global;
 
 /// Adds the logs of these endpoints.
-fn add_ends<'a>(logs: &mut Vec<&'a [Entry]>, ends: &'a [Endpoint]) -> Result<(), NoMemory>
+pub(crate) fn add_ends<'a>(
+    logs: &mut Vec<&'a [Entry]>,
+    ends: &'a [Endpoint],
+) -> Result<(), NoMemory>
     ensures { OnOk result (lists_of logs.new.items ≡ lists_of logs.old.items ++ map log_of ends.now) }
 {
     for end in ends {

@@ -66,10 +66,10 @@ fn open_frame(alloc: Global, scenario: &Scenario, parts: &[NodePart]) -> Result<
     ensures no_ends { IfOk result (λ frame. frame.ends.items ≡ []) }
     ensures ends { IfOk result (λ frame. length scenario.now.ends ≤ vec_capacity frame.ends) }
 {
-    let merged = journal_of(alloc, parts)?;
+    let index = index_of(alloc, journal_of(alloc, parts)?.entries())?;
     Ok(Frame {
         faults: Vec::from_slice(alloc, &scenario.faults)?,
-        index: index_of(alloc, merged.entries())?,
+        index,
         taken: room_for(alloc, parts.len())?,
         ends: Vec::with_capacity(alloc, scenario.ends.len())?,
     })

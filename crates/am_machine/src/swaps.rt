@@ -23,14 +23,13 @@ fn is_of_node(fault: &FaultLine, node: NodeId) -> bool
 }
 
 /// The numbers of a node's page calls that fail.
-#[tactic(auto, using(crate::proofs::Presets::fails_in, crate::proofs::Presets::fails_out))]
 fn fails_of(alloc: Global, faults: &[FaultLine], node: NodeId) -> Result<Vec<u32>, NoMemory>
     ensures { IfOk result (λ fails. fails.items ≡ fails_of node faults.now) }
 {
     let mut fails = Vec::new(alloc);
     for fault in faults {
-        if is_of_node(fault, node) && fails.push(fault.number).is_err() {
-            return Err(NoMemory);
+        if is_of_node(fault, node) {
+            fails.push(fault.number)?;
         }
     }
     Ok(fails)

@@ -13,6 +13,7 @@ ghost use Rattle.am_office_entries.specs.declared.Entry.{Entry};
 ghost use Rattle.am_office_entries.specs.Logged.Behind.{entries_behind};
 ghost use Rattle.std.specs.Prelude.{◌≡◌, ◌+◌, ◌<◌, ◌^◌, ◌∷◌, ◌++◌, [], length, IfOk, List, OnOk};
 
+use crate::logs::add_ends;
 use crate::node::NodePart;
 use am_iface::emitted_of;
 use am_machine_journal::index::JournalIndex;
@@ -26,9 +27,7 @@ use std::alloc::Global;
 fn add_logs<'a>(logs: &mut Vec<&'a [Entry]>, part: &'a NodePart) -> Result<(), NoMemory>
     ensures { OnOk result (lists_of logs.new.items ≡ lists_of logs.old.items ++ logs_of_part part.now) }
 {
-    for end in &part.ends {
-        logs.push(end.log())?;
-    }
+    add_ends(logs, &part.ends)?;
     logs.push(part.iface.log())?;
     Ok(())
 }

@@ -1,4 +1,4 @@
-use Rattle.std.proofs.Common.{◌≡◌, ℕ, ◌+◌, ◌++◌, ◌∷◌, [], List, true, map, length, Some, None, position, vec_len, take, drop, subst, refl, sym, ap, ◌∙◌, arith}
+use Rattle.std.proofs.Common.{◌≡◌, ℕ, ◌+◌, ◌<◌, ◌++◌, ◌∷◌, [], List, true, map, length, Some, None, position, vec_len, take, drop, subst, refl, sym, ap, ◌∙◌, arith}
 use Rattle.std.specs.Prelude.{slice_get, Ok}
 use Rattle.am_endpoint.specs.View.{EndpointView}
 use Rattle.am_office_entries.specs.declared.Entry.{Entry}
@@ -16,7 +16,7 @@ use Rattle.am_machine.proofs.Applied.{IsHere, IsNext}
 use Rattle.am_machine.proofs.Carriages as carriages
 use Rattle.am_machine.proofs.Carriages.{Carriage, IsEntryOf}
 use Rattle.am_machine.proofs.Indexed.{made_as, indexed, indexed_counts, indexed_stamp, indexed_still, seen_still}
-use Rattle.am_machine.proofs.Places.{lent_back, not_found, still_at}
+use Rattle.am_machine.proofs.Places.{found, lent_back, not_found, still_at}
 use Rattle.am_machine.proofs.Refusing.{carry_front_there, carry_rooms, refused, runs_of, unstopped}
 use Rattle.am_machine.proofs.Apart.{apart_in}
 use Rattle.am_machine.proofs.Cluster.carry_front.Goals as goal
@@ -88,6 +88,20 @@ unreachable-requires-in_default-place_of-2 c =
     ∙ ap (position (is_of c.in-Some-front.front.message.dest)) c.deref-2.ensures.value) ∙ c.in_default-place_of-2.is)
     (carriages.dest_declared (layout a) (past a) c.args.end c.in-Some-front.front c.self.invariant.kept'.tied at)
 
+-- ---- both places are of endpoints
+
+pub room_for_both-requires-clause-source : goal.room_for_both-requires-clause-source
+room_for_both-requires-clause-source c =
+    subst (λ (l : List EndpointView). c.in-Some-place_of.source < length l) (sym c.deref_mut.ensures.value)
+    (found c.self.inside.ends.items c.args.end c.in-Some-place_of.source (sym (c.place_of.ensures
+    ∙ ap (position (is_of c.args.end)) c.deref.ensures.value) ∙ c.in-Some-place_of.is)).within
+
+pub room_for_both-requires-clause-dest : goal.room_for_both-requires-clause-dest
+room_for_both-requires-clause-dest c =
+    subst (λ (l : List EndpointView). c.in-Some-place_of-2.dest < length l) (sym c.deref_mut.ensures.value)
+    (found c.self.inside.ends.items c.in-Some-front.front.message.dest c.in-Some-place_of-2.dest (sym (c.place_of-2.ensures
+    ∙ ap (position (is_of c.in-Some-front.front.message.dest)) c.deref-2.ensures.value) ∙ c.in-Some-place_of-2.is)).within
+
 -- ---- the carry
 
 abbrev carriage : After-judged → Carriage
@@ -142,6 +156,20 @@ back c = c.deref_mut-2.ensures.value ∙ lent_back (vec_len c.self.inside.ends) 
 
 same : (c : After-deref_mut-2) → map kept c.deref_mut-2.result.now ≡ map kept c.self.inside.ends.items
 same c = ap (λ (l : List EndpointView). map kept l) (back c) ∙ c.in-Ok.ensures.same ∙ ap (λ (l : List EndpointView). map kept l) c.deref_mut.ensures.value
+
+-- and as many
+as_many : (c : After-deref_mut-2) → length c.deref_mut-2.result.now ≡ length c.self.inside.ends.items
+as_many c = ap (λ (l : List EndpointView). length l) (back c) ∙ c.room_for_both.auto.ends ∙ ap (λ (l : List EndpointView). length l) c.deref_mut.ensures.value
+
+pub carry_between-requires-clause-source : goal.carry_between-requires-clause-source
+carry_between-requires-clause-source c =
+    let a = (goal.at.carry_between-requires-clause-source c).After-judged in let b = (goal.at.carry_between-requires-clause-source c).After-deref_mut-2 in
+    subst (λ (n : ℕ). c.in-Some-place_of.source < n) (sym (as_many b)) (carriage a).source.within
+
+pub carry_between-requires-clause-dest : goal.carry_between-requires-clause-dest
+carry_between-requires-clause-dest c =
+    let a = (goal.at.carry_between-requires-clause-dest c).After-judged in let b = (goal.at.carry_between-requires-clause-dest c).After-deref_mut-2 in
+    subst (λ (n : ℕ). c.in-Some-place_of-2.dest < n) (sym (as_many b)) (carriage a).dest.within
 
 pub carry_between-requires-clause-carries : goal.carry_between-requires-clause-carries
 carry_between-requires-clause-carries c =
