@@ -16,9 +16,9 @@ pub(crate) fn no_packets(alloc: Global) -> Result<Vec<Vec<Packet>>, NoMemory>
 {
     let mut links = Vec::new(alloc);
     for i in 0..256u16 {
-        if links.push(Vec::new(alloc)).is_err() {
+        let Ok(()) = links.push(Vec::new(alloc)) else {
             return Err(NoMemory);
-        }
+        };
     }
     Ok(links)
 }

@@ -116,10 +116,8 @@ fn all_standing<'a>(
 fn no_slots<'a>(alloc: Global, count: usize) -> Result<Vec<Option<&'a Entry>>, NoMemory>
     ensures { IfOk result (λ slots. All (λ slot. slot ≡ None) slots.items) }
 {
-    let mut slots = Vec::with_capacity(alloc, count)?;
-    for _place in 0..count {
-        slots.push(None)?;
-    }
+    let mut slots = Vec::new(alloc);
+    slots.resize(count, None)?;
     Ok(slots)
 }
 
