@@ -99,9 +99,9 @@ pub(crate) fn open_interfaces(
     let count = interfaces_of(settings);
     for node in 0..count {
         let interface = open_interface(alloc, settings, lines, NodeId(node))?;
-        if all.push(interface).is_err() {
+        let Ok(()) = all.push(interface) else {
             return Err(NoMemory);
-        }
+        };
     }
     Ok(all)
 }

@@ -103,9 +103,9 @@ pub(crate) fn open_swaps(
     let count = interfaces_of(settings);
     for node in 0..count {
         let swap = open_swap(alloc, settings, faults, lines, NodeId(node))?;
-        if all.push(swap).is_err() {
+        let Ok(()) = all.push(swap) else {
             return Err(NoMemory);
-        }
+        };
     }
     Ok(all)
 }

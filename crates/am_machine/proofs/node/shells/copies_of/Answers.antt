@@ -1,4 +1,5 @@
-use Rattle.std.proofs.Common.{◌≡◌, ◌+◌, ◌∷◌, [], ◌∙◌, sym, subst, arith, length-append}
+use Rattle.std.proofs.Common.{ℕ, ◌≡◌, ◌+◌, ◌∷◌, [], ◌∙◌, sym, subst, arith, length-append}
+use Rattle.std.proofs.Math.Nat.{le_antisymm}
 use Rattle.std.specs.Global.{Vec}
 use Rattle.am_names.specs.declared.Packet.{Packet}
 use Rattle.am_model.specs.Channels.{emitted}
@@ -17,3 +18,8 @@ loop-to-preserved c past is =
       each = each_more (λ k (ps : Vec Packet). ps.items ≡ emitted c.args.from (node_at k) past) c.loop-to.copies.items c.in_ok-copy.copy c.loop-to.to all
           before.each (c.in_ok-copy.ensures.items ∙ c.emitted.ensures past is);
     })
+
+pub returns : goal.returns
+returns c past is =
+    let all : c.loop-to.to ≡ c.args.nodes = le_antisymm c.loop-to.auto.to-end c.loop-to-test.false in
+    subst (λ (n : ℕ). AreCopies past c.args.from n c.loop-to.copies.items) all (c.loop-to.invariant past is)

@@ -1,4 +1,5 @@
 use Rattle.std.proofs.Common.{◌≡◌, ◌+◌, ◌∷◌, [], ℕ, sym, subst, arith, length-append}
+use Rattle.std.proofs.Math.Nat.{le_antisymm}
 use Rattle.am_model.specs.Layout.{node_at}
 use Rattle.am_machine_journal.specs.Index.View.{receipts}
 use Rattle.am_machine.specs.Node.Shells.{AreCounts}
@@ -15,3 +16,8 @@ loop-from-preserved c past is =
       each = each_more (λ k (n : ℕ). n ≡ receipts (node_at k) c.args.to past) c.loop-from.counts.items c.received.result c.loop-from.from all before.each
           (c.received.ensures.receipts past is);
     })
+
+pub returns : goal.returns
+returns c past is =
+    let all : c.loop-from.from ≡ c.args.nodes = le_antisymm c.loop-from.auto.from-end c.loop-from-test.false in
+    subst (λ (n : ℕ). AreCounts past c.args.to n c.loop-from.counts.items) all (c.loop-from.invariant past is)

@@ -1,4 +1,5 @@
-use Rattle.std.proofs.Common.{◌+◌, ◌∷◌, [], sym, subst, arith, length-append}
+use Rattle.std.proofs.Common.{ℕ, ◌≡◌, ◌+◌, ◌∷◌, [], sym, subst, arith, length-append}
+use Rattle.std.proofs.Math.Nat.{le_antisymm}
 use Rattle.am_model.specs.Layout.{node_at}
 use Rattle.am_machine.specs.Node.Shells.{AreShells, IsShell}
 use Rattle.am_machine.specs.declared.node.shells.Shell.{Shell}
@@ -18,3 +19,8 @@ loop-node-preserved c past is =
       each = each_more (λ k (s : Shell). IsShell c.args.ends.now past c.args.nodes (node_at k) s) c.loop-node.shells.items c.in_ok-shell.shell c.loop-node.node
           all before.each (c.in_ok-shell.ensures past is);
     })
+
+pub returns : goal.returns
+returns c past is =
+    let all : c.loop-node.node ≡ c.args.nodes = le_antisymm c.loop-node.auto.node-end c.loop-node-test.false in
+    subst (λ (n : ℕ). AreShells c.args.ends.now past c.args.nodes n c.loop-node.shells.items) all (c.loop-node.invariant past is)
