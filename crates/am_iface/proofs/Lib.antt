@@ -16,3 +16,4 @@ pub mod Flown
 pub mod Settled
 pub mod Last
 pub mod Refusing
+pub mod Unused

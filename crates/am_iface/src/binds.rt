@@ -21,13 +21,13 @@ ghost use Rattle.std.specs.Result.{result_err};
 
 use crate::by_ends::{bind, first_try};
 use crate::entries::{bind_entry, sent};
-use crate::packets::emits;
+use crate::with::make_room;
 use crate::{Interface, write};
 use am_channel::Ends;
 use am_endpoint::Endpoint;
 use am_model::{EntryFault, Queued, is_resident};
 use am_names::{EndpointId, Message, NodeId};
-use am_office_entries::{Condition, Entry, Part, growth};
+use am_office_entries::{Condition, Entry, Part};
 
 /// A message that is to be bound, the node where it goes, and the channel to it that is free.
 #[derive(Drop)]
@@ -145,26 +145,21 @@ impl Interface {
         if let Err(fault) = self.limits_with(endpoint) {
             return Err(fault);
         }
-        if self.log.reserve(growth(&self.log)).is_err() {
+        if make_room(&mut self.log, endpoint).is_err() {
             return Err(EntryFault::NoMemory);
         }
-        match endpoint.room() {
-            Err(_) => Err(EntryFault::NoMemory),
-            Ok(()) => {
-                let mut ends = idle;
-                bind(&mut ends, message, endpoint.take(*entry));
-                write(
-                    &mut self.ends,
-                    &mut self.emissions,
-                    peer,
-                    channel,
-                    &ends,
-                    emits(entry),
-                );
-                self.log.push_reserved(*entry);
-                Ok(())
-            }
-        }
+        let mut ends = idle;
+        bind(&mut ends, message, endpoint.take(*entry));
+        write(
+            &mut self.ends,
+            &mut self.emissions,
+            &mut self.log,
+            peer,
+            channel,
+            &ends,
+            entry,
+        );
+        Ok(())
     }
 
     /// Binds the front message, which nothing keeps from being bound, to the channel of its way.

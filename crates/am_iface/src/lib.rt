@@ -20,11 +20,12 @@ ghost use Rattle.am_names.specs.declared.Packet.TheVariants as Packets;
 ghost use Rattle.am_model.specs.Channels.{attempt, bound_message, emitted};
 ghost use Rattle.std.specs.Option.{option_copied, option_map};
 ghost use Rattle.am_iface.specs.Made.{IsMade};
+ghost use Rattle.am_office_entries.specs.Entries as does;
 ghost use Rattle.am_office_entries.specs.Entries.{emitted_of};
 ghost use Rattle.am_office_entries.specs.declared.Entry.{Entry};
 ghost use Rattle.am_office_entries.specs.declared.Condition.{Condition};
 ghost use Rattle.am_office_entries.specs.declared.Part.{Part};
-ghost use Rattle.std.specs.Prelude.{◌≡◌, ◌≢◌, ◌↔◌, ◌+◌, ◌-◌, ◌*◌, ◌<◌, ◌≤◌, ◌^◌, IsTrue, cond, false, max, None, Some, [], ◌∷◌, ◌++◌, length, IfOk, IfSome, List, OnOk, OnErr, Err, get_or, slice_get, slice_set};
+ghost use Rattle.std.specs.Prelude.{◌≡◌, ◌≢◌, ◌↔◌, ◌+◌, ◌-◌, ◌*◌, ◌<◌, ◌≤◌, ◌^◌, IsTrue, cond, false, max, None, Some, [], ◌∷◌, ◌++◌, length, IfOk, IfSome, List, OnOk, OnErr, Err, get_or, is_some, slice_get, slice_set, vec_capacity, vec_len};
 
 mod binds;
 mod by_ends;
@@ -281,12 +282,12 @@ impl Interface {
         write(
             &mut self.ends,
             &mut self.emissions,
+            &mut self.log,
             peer,
             channel,
             ends,
-            emits(entry),
+            entry,
         );
-        self.log.push_reserved(*entry);
         Ok(())
     }
 
@@ -565,28 +566,33 @@ impl Interface {
     }
 }
 
-/// Writes what a call leaves: both ends of its channel, and one packet more to its peer where it emits one.
+/// Writes what a call leaves: both ends of its channel, one packet more to its peer where its entry emits one, and the entry.
 fn write(
     all: &mut Vec<Ends>,
     emissions: &mut Vec<u32>,
+    log: &mut Vec<Entry>,
     peer: NodeId,
     channel: u8,
     ends: &Ends,
-    emits: bool,
+    entry: &Entry,
 )
     requires peer { peer.0 < length emissions.old.items }
     requires channel { 4 * peer.0 + channel < length all.old.items }
-    requires count { get_or emissions.old.items peer.0 0 + cond emits 1 0 < 2 ^ 32 }
+    requires count { get_or emissions.old.items peer.0 0 + 1 < 2 ^ 32 }
+    requires room { vec_len log.old < vec_capacity log.old }
     ensures ends { all.new.items ≡ slice_set all.old.items (4 * peer.0 + channel) ends.now }
-    ensures emissions { emissions.new.items ≡ slice_set emissions.old.items peer.0 (get_or emissions.old.items peer.0 0 + cond emits 1 0) }
+    ensures emissions { emissions.new.items ≡ slice_set emissions.old.items peer.0 (get_or emissions.old.items peer.0 0 + cond (is_some (does.emitted_of entry.now)) 1 0) }
+    ensures log { log.new.items ≡ log.old.items ++ entry.now ∷ [] }
 {
     let to = peer.0 as usize;
     all[4 * to + channel as usize] = *ends;
-    emissions[to] += one_if(emits);
+    emissions[to] += one_if(emits(entry));
+    log.push_reserved(*entry);
 }
 
 fn one_if(is: bool) -> u32
-    ensures { result ≡ cond is 1 0 }
+    ensures value { result ≡ cond is 1 0 }
+    ensures small { result ≤ 1 }
 {
     if is { 1 } else { 0 }
 }

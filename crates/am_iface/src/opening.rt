@@ -1,7 +1,7 @@
 //! What an interface has before any entry.
 
 ghost use Rattle.am_channel.specs.Ends.{new_ends};
-ghost use Rattle.std.specs.Prelude.{◌≡◌, vec_len, All, IfOk};
+ghost use Rattle.std.specs.Prelude.{◌≡◌, IfOk, replicate};
 
 use am_channel::Ends;
 use am_office_entries::NoMemory;
@@ -9,28 +9,14 @@ use std::alloc::Global;
 
 /// Four ends for each of 16 peers, on which no call was made.
 pub(crate) fn unused_ends(alloc: Global) -> Result<Vec<Ends>, NoMemory>
-    ensures len { IfOk result (λ v. vec_len v ≡ 64) }
-    ensures new { IfOk result (λ v. All (λ e. e ≡ new_ends) v.items) }
+    ensures { IfOk result (λ v. v.items ≡ replicate 64 new_ends) }
 {
-    let mut all = Vec::new(alloc);
-    for i in 0..64u8 {
-        if all.push(Ends::new()).is_err() {
-            return Err(NoMemory);
-        }
-    }
-    Ok(all)
+    Ok(vec![in alloc; Ends::new(); 64]?)
 }
 
 /// 0 for each of 16 peers.
 pub(crate) fn no_emissions(alloc: Global) -> Result<Vec<u32>, NoMemory>
-    ensures len { IfOk result (λ v. vec_len v ≡ 16) }
-    ensures none { IfOk result (λ v. All (λ n. n ≡ 0) v.items) }
+    ensures { IfOk result (λ v. v.items ≡ replicate 16 0) }
 {
-    let mut all = Vec::new(alloc);
-    for i in 0..16u8 {
-        if all.push(0).is_err() {
-            return Err(NoMemory);
-        }
-    }
-    Ok(all)
+    Ok(vec![in alloc; 0; 16]?)
 }

@@ -15,18 +15,17 @@ ghost use Rattle.am_model_parts.specs.declared.work.Work.TheVariants as Works;
 ghost use Rattle.am_names.specs.declared.Packet.TheVariants as Packets;
 ghost use Rattle.am_office_entries.specs.declared.Condition.{Condition};
 ghost use Rattle.am_office_entries.specs.declared.Part.{Part};
-ghost use Rattle.std.specs.Prelude.{◌≡◌, ◌≢◌, ◌↔◌, ◌<◌, Err, Some, [], ◌∷◌, ◌++◌, false, true, length, IsSome, OnErr, OnOk};
+ghost use Rattle.std.specs.Prelude.{◌≡◌, ◌≢◌, ◌↔◌, ◌<◌, Err, Some, [], ◌∷◌, ◌++◌, false, true, length, IsSome, OnErr, OnOk, vec_capacity, vec_len};
 
 use crate::by_ends::{answer, decide, time_out};
 use crate::entries::{answer_receipt, decided, give_up, parcel_receipt, settled_by};
-use crate::packets::emits;
 use crate::{Interface, write};
 use am_channel::{Ends, Settled, TimedOut};
 use am_endpoint::Endpoint;
 use am_model::{EntryFault, Flying};
 use am_model_parts::work::Work;
 use am_names::{AnswerPacket, Message, NodeId, Packet, Parcel, Serial, Verdict};
-use am_office_entries::{Entry, Event, Outcome, Part, growth};
+use am_office_entries::{Entry, Event, NoMemory, Outcome, Part, growth};
 
 impl Interface {
     /// Whether both logs have room for one more entry: `LogFull` names the endpoint's where it is full, and else the
@@ -73,24 +72,19 @@ impl Interface {
         if let Err(fault) = self.limits_with(endpoint) {
             return Err(fault);
         }
-        if self.log.reserve(growth(&self.log)).is_err() {
+        if make_room(&mut self.log, endpoint).is_err() {
             return Err(EntryFault::NoMemory);
         }
-        match endpoint.room() {
-            Err(_) => Err(EntryFault::NoMemory),
-            Ok(()) => {
-                write(
-                    &mut self.ends,
-                    &mut self.emissions,
-                    peer,
-                    channel,
-                    ends,
-                    emits(entry),
-                );
-                self.log.push_reserved(*entry);
-                Ok(())
-            }
-        }
+        write(
+            &mut self.ends,
+            &mut self.emissions,
+            &mut self.log,
+            peer,
+            channel,
+            ends,
+            entry,
+        );
+        Ok(())
     }
 
     /// Receives a fresh parcel, which gets its destination's verdict.
@@ -297,6 +291,26 @@ impl Interface {
             Work::Bind(_) => self.bind_with(stamp, endpoint),
             Work::Expire { peer, channel } => self.give_up_with(stamp, *peer, *channel, endpoint),
         }
+    }
+}
+
+/// Makes room for one more entry in both logs. Where it doesn't, the endpoint's loses no room.
+pub(crate) fn make_room(log: &mut Vec<Entry>, endpoint: &mut Endpoint) -> Result<(), NoMemory>
+    ensures same { log.new.items ≡ log.old.items }
+    ensures spare { OnOk result (vec_len log.new < vec_capacity log.new) }
+    ensures ready { OnOk result (endpoint.new.ready ≡ true) }
+    ensures there { OnOk result (length endpoint.new.log < endpoint.new.settings.log) }
+    ensures settings { endpoint.new.settings ≡ endpoint.old.settings }
+    ensures log { endpoint.new.log ≡ endpoint.old.log }
+    ensures flights { endpoint.new.flights ≡ endpoint.old.flights }
+    ensures kept { OnErr result (endpoint.new.ready ≡ endpoint.old.ready) }
+{
+    if log.reserve(growth(log)).is_err() {
+        return Err(NoMemory);
+    }
+    match endpoint.room() {
+        Ok(()) => Ok(()),
+        Err(_) => Err(NoMemory),
     }
 }
 

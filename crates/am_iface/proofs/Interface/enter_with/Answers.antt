@@ -1,8 +1,8 @@
 use Rattle.std.specs.Prelude.{Err}
-use Rattle.std.proofs.Common.{◌≡◌, ◌<◌, [], ◌∷◌, ◌++◌, length, get_or, sym, ap, subst, arith}
-use Rattle.std.proofs.lemmas.Grind.{common_steps}
+use Rattle.std.proofs.Common.{◌≡◌, true, is_some, refl, ◌<◌, [], ◌∷◌, ◌++◌, length, get_or, sym, ap, subst, arith}
 use Rattle.am_iface.specs.View.{InterfaceView}
 use Rattle.am_model.specs.declared.EntryFault.TheVariants as Faults
+use Rattle.am_office_entries.specs.Entries.{emitted_of}
 use Rattle.am_iface.proofs.Entering as entering
 use Rattle.am_iface.proofs.Interface.enter_with.Goals as goal
 
@@ -18,16 +18,16 @@ write-requires-clause-count c =
     let counts = c.self.inside.emissions.items in
     omega (
       arith,
-      entering.count_within c.self.inside c.args.self.now c.args.peer (get_or counts c.args.peer.0 0) c.emits.result c.self.view_is c.self.invariant
+      entering.count_within c.self.inside c.args.self.now c.args.peer (get_or counts c.args.peer.0 0) true c.self.view_is c.self.invariant
           c.requires.peer (entering.read_same counts c.args.peer.0 0),
     )
 
-pub invariant_of-self-in-Ok : goal.invariant_of-self-in-Ok
-invariant_of-self-in-Ok c =
+pub invariant_of-self-2 : goal.invariant_of-self-2
+invariant_of-self-2 c =
     let v = c.args.self.now in
-    let items : c.push_reserved.new.self.items ≡ c.self.inside.log.items ++ c.args.entry.now ∷ [] = grind (arith, common_steps) in
+    let items : c.write.new.log.items ≡ c.self.inside.log.items ++ c.args.entry.now ∷ [] = cc in
     let room : length c.self.inside.log.items < c.self.inside.limits.log =
     subst (λ (w : InterfaceView). length w.log < w.settings.log) (sym c.self.view_is) c.in_default.ensures.here in
-    entering.entered_seen c.self.inside v c.args.peer c.args.channel c.args.ends.now c.args.entry.now c.emits.result c.write.new.all.items
-    c.write.new.emissions.items c.push_reserved.new.self.items c.self.view_is c.self.invariant c.requires.peer c.requires.channel room c.requires.made
-    (record { emits = c.emits.ensures; ends = c.write.ensures.ends; emissions = c.write.ensures.emissions; log = items })
+    entering.entered_seen c.self.inside v c.args.peer c.args.channel c.args.ends.now c.args.entry.now (is_some (emitted_of c.args.entry.now)) c.write.new.all.items
+    c.write.new.emissions.items c.write.new.log.items c.self.view_is c.self.invariant c.requires.peer c.requires.channel room c.requires.made
+    (record { emits = refl; ends = c.write.ensures.ends; emissions = c.write.ensures.emissions; log = items })
