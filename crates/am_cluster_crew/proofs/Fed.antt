@@ -3,7 +3,8 @@ use Rattle.std.proofs.Common.{List, IfOk, OnOk, Result, Ok, Err}
 use Rattle.am_machine.specs.View.{ClusterView}
 use Rattle.am_scenario_types.specs.Lists.{ScenarioLists}
 use Rattle.am_cluster_opening.specs.declared.crew.NodeCrew.{NodeCrew}
-use Rattle.am_cluster_crew.specs.Fed.{IsFedPhase, IsMadeBy, IsNoneStarved}
+use Rattle.am_cluster_crew.specs.Fed.{IsFedPhase, IsNoneStarved}
+use Rattle.am_cluster_running.specs.Made.{IsMadeBy}
 
 -- what these crews made is a phase of crews of which no worker found no memory
 pub fed_phase : {E : Type 0} (s : ScenarioLists) (crews : List NodeCrew) (r : Result ClusterView E) →

@@ -1,33 +1,22 @@
 //! The phase of a run: the workers of all nodes make their turns at the same time, and what they made is put together to a cluster
-//! that a drain may go on from.
+//! that a drain may go on from, unless one of them found no memory.
 #![tactic(auto)]
 
-ghost use Rattle.am_cluster_crew.specs.Fed.{IsFedPhase, IsMadeBy, IsNoneStarved};
+ghost use Rattle.am_cluster_crew.specs.Fed.{IsFedPhase, IsNoneStarved};
 ghost use Rattle.am_cluster_opening.specs.Crews.{AreCrews, AreLinked};
+ghost use Rattle.am_cluster_running.specs.Made.{IsMadeBy};
 ghost use Rattle.am_model_drain.specs.Follows.{IsGoodPhase};
 ghost use Rattle.am_model_scripts.specs.Layout.{layout_of};
 ghost use Rattle.am_scenario_types.specs.Lawful.{IsLawful};
 ghost use Rattle.am_scenario_types.specs.declared.parts.Network.TheVariants as Networks;
 ghost use Rattle.std.specs.Prelude.{◌≡◌, [], IfOk, OnOk};
 
-mod closing;
-mod ended;
-mod ending;
-pub mod ends;
-mod parting;
-mod running;
-pub mod uniting;
-
-use crate::ending::end_crews;
-use crate::ends::crews_unite;
-use crate::parting::parts_of;
-use crate::running::{found_no_memory, run_crews};
-use crate::uniting::receipts_are_counted;
 use am_cluster_opening::{NodeCrew, open_crews};
+pub use am_cluster_running::{Gate, OpenGate};
+use am_cluster_running::{found_no_memory, give_up, run_crews, unite_ended};
 use am_machine::Cluster;
 use am_office_entries::NoMemory;
 use am_scenario_types::Scenario;
-pub use am_workers::{Gate, OpenGate};
 use std::alloc::Global;
 use std::thread::Threads;
 
@@ -50,16 +39,9 @@ pub fn unite_crews(
     ensures fed { OnOk result (IsNoneStarved crews.items) }
 {
     if found_no_memory(&crews) {
-        return Err(NoMemory);
+        return Err(give_up(crews));
     }
-    receipts_are_counted();
-    crews_unite();
-    let ended = end_crews(alloc, scenario, crews)?;
-    let parts = parts_of(alloc, ended, scenario.nodes)?;
-    match Cluster::unite(alloc, scenario, parts) {
-        Ok(cluster) => Ok(cluster),
-        Err(_) => Err(NoMemory),
-    }
+    unite_ended(alloc, scenario, crews)
 }
 
 /// What the threads, interfaces and drivers of a scenario of the packet network make in its number of turns, all at the same time:

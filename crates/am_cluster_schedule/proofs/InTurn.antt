@@ -18,8 +18,8 @@ use Rattle.am_workers.specs.declared.workers.InterfaceWorker.{InterfaceWorker}
 use Rattle.am_workers.specs.declared.workers.DriverWorker.{DriverWorker}
 use Rattle.am_cluster_opening.specs.Crews.{AreCrews, AreLinked, IsCrew, ids_of, table_of}
 use Rattle.am_cluster_opening.specs.declared.crew.NodeCrew.{NodeCrew}
-use Rattle.am_cluster_crew.specs.Running.{IsDriverAt, IsInterfaceAt, IsThreadAt, SameCrew, SameDriver, SameInterface, SameThread}
-use Rattle.am_cluster_crew.proofs.Ran.{crew_ran, still_linked}
+use Rattle.am_cluster_running.specs.Running.{IsDriverAt, IsInterfaceAt, IsThreadAt, SameCrew, SameDriver, SameInterface, SameThread}
+use Rattle.am_cluster_running.proofs.Ran.{crew_ran, still_linked}
 use Rattle.am_cluster_schedule.proofs.Linked.{at_more, got_removed, got_set, here_set, ins_itself, outs_itself, place_from, same_got}
 use Rattle.am_cluster_schedule.specs.InTurn.{AreInTurn, IsNext, IsRoleAt}
 use Rattle.am_cluster_schedule.specs.Order.{behind}

@@ -5,7 +5,8 @@ use Rattle.am_machine.specs.View.{ClusterView}
 use Rattle.am_scenario_types.specs.Lists.{ScenarioLists}
 use Rattle.am_cluster_opening.specs.Crews.{AreCrews, AreLinked, AreNumbered, IsUnused}
 use Rattle.am_cluster_opening.specs.declared.crew.NodeCrew.{NodeCrew}
-use Rattle.am_cluster_crew.specs.Fed.{IsMadeBy, IsNoneStarved}
+use Rattle.am_cluster_crew.specs.Fed.{IsNoneStarved}
+use Rattle.am_cluster_running.specs.Made.{IsMadeBy}
 use Rattle.am_cluster.specs.Runs.{EndsPhase, IsFedRun}
 use Rattle.am_cluster.specs.declared.Finished.{Finished}
 use Rattle.am_cluster.specs.declared.RunFault.{RunFault}

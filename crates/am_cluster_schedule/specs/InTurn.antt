@@ -5,7 +5,7 @@ use Rattle.am_workers.specs.declared.workers.ThreadWorker.{ThreadWorker}
 use Rattle.am_cluster_opening.specs.Crews.{AreCrews}
 use Rattle.am_cluster_opening.specs.Node.Openings.{EndPlaces}
 use Rattle.am_cluster_opening.specs.declared.crew.NodeCrew.{NodeCrew}
-use Rattle.am_cluster_crew.specs.Running.{IsDriverAt, IsInterfaceAt, IsThreadAt, SameThread}
+use Rattle.am_cluster_running.specs.Running.{IsDriverAt, IsInterfaceAt, IsThreadAt, SameThread}
 use Rattle.am_cluster_schedule.specs.Schedules.{ThreadTurned}
 use Rattle.am_cluster_schedule.specs.declared.order.Role.{Role}
 use Rattle.am_cluster_schedule.specs.declared.order.Role.TheVariants.{Thread, Interface, Driver}

@@ -5,7 +5,8 @@ use Rattle.am_cluster.specs.Runs.{EndsPhase}
 use Rattle.am_cluster.specs.declared.Finished.{Finished}
 use Rattle.am_cluster.specs.declared.RunFault.{RunFault}
 use Rattle.am_cluster.specs.declared.RunFault.TheVariants as Runs
-use Rattle.am_cluster_crew.specs.Fed.{IsMadeBy, IsNoneStarved}
+use Rattle.am_cluster_crew.specs.Fed.{IsNoneStarved}
+use Rattle.am_cluster_running.specs.Made.{IsMadeBy}
 use Rattle.am_cluster_opening.specs.Crews.{AreCrews, AreLinked, AreNumbered, IsUnused, ids_of}
 use Rattle.am_cluster_opening.specs.declared.crew.NodeCrew.{NodeCrew}
 use Rattle.am_cluster_schedule.specs.Order.{order_of}

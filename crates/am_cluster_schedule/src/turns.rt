@@ -1,6 +1,6 @@
 //! The turns of all workers, one at a time.
 
-ghost use Rattle.am_cluster_crew.specs.Running.{IsThreadAt, SameCrew};
+ghost use Rattle.am_cluster_running.specs.Running.{IsThreadAt, SameCrew};
 ghost use Rattle.am_cluster_opening.specs.Crews.{AreCrews, AreLinked, IsCrew};
 ghost use Rattle.am_cluster_schedule.specs.InTurn.{IsRoleAt, IsTurnOfThread};
 ghost use Rattle.am_cluster_schedule.specs.Order.{first_turns, order_of};

@@ -1,6 +1,6 @@
 use Rattle.std.proofs.Common.{◌+◌, refl, subst}
 use Rattle.am_names.specs.declared.NodeId.{NodeId}
-use Rattle.am_cluster_crew.specs.Running.{IsDriverAt}
+use Rattle.am_cluster_running.specs.Running.{IsDriverAt}
 use Rattle.am_cluster_schedule.proofs.InTurn.{crew_itself, driver_turned}
 use Rattle.am_cluster_schedule.proofs.turns.take_driver_turn.Goals as goal
 

@@ -1,7 +1,7 @@
 use Rattle.std.proofs.Common.{◌≡◌, Some, List, refl, sym, subst, slice_get}
 use Rattle.std.proofs.lemmas.Option.{slice_get_within}
 use Rattle.am_workers.specs.declared.workers.ThreadWorker.{ThreadWorker}
-use Rattle.am_cluster_crew.specs.Running.{IsThreadAt}
+use Rattle.am_cluster_running.specs.Running.{IsThreadAt}
 use Rattle.am_cluster_schedule.proofs.InTurn.{crew_itself, thread_turned}
 use Rattle.am_cluster_schedule.proofs.Linked.{here_set, same_got}
 use Rattle.am_cluster_schedule.proofs.turns.take_thread_turn.Goals as goal

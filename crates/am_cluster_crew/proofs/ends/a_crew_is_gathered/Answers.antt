@@ -1,5 +1,0 @@
-use Rattle.am_cluster_crew.proofs.Crews.{crews_gather}
-use Rattle.am_cluster_crew.proofs.ends.a_crew_is_gathered.Goals as goal
-
-pub returns : goal.returns
-returns c = crews_gather

@@ -1,5 +1,0 @@
-use Rattle.am_cluster_crew.proofs.Crews.{crews_unite}
-use Rattle.am_cluster_crew.proofs.ends.crews_unite.Goals as goal
-
-pub returns : goal.returns
-returns c = crews_unite

@@ -1,5 +1,0 @@
-use Rattle.am_cluster_crew.proofs.Seated.{teams_gather}
-use Rattle.am_cluster_crew.proofs.uniting.a_driver_gathers_all.Goals as goal
-
-pub returns : goal.returns
-returns c = teams_gather

@@ -1,5 +1,0 @@
-use Rattle.am_cluster_crew.proofs.Teams.{teams_unite}
-use Rattle.am_cluster_crew.proofs.uniting.teams_unite.Goals as goal
-
-pub returns : goal.returns
-returns c = teams_unite
