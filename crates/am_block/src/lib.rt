@@ -52,7 +52,7 @@ pub enum List {
 }
 
 /// The number of a descriptor in its block, from 0, below the block's size.
-#[derive(Clone, Copy, PartialEq, Eq, Debug)]
+#[derive(Clone, Copy, PartialEq, Eq)]
 pub struct Slot(pub u8);
 
 /// Six lists in which each slot below the size stands once (`IsBlock` of `specs/Pools.antt`), and a descriptor for

@@ -10,7 +10,7 @@ use std::alloc::Global;
 use std::marker::Model;
 
 /// Endpoints of one node, in the order in which they are polled.
-#[derive(Debug, Drop)]
+#[derive(Drop)]
 pub struct Bundle {
     /// The bundle's number, 0 to 63.
     pub id: u8,
@@ -29,7 +29,7 @@ impl Model for Bundle {
 }
 
 /// What a bundle tells of its members.
-#[derive(Clone, Copy, PartialEq, Eq, Debug)]
+#[derive(Clone, Copy, PartialEq, Eq)]
 pub enum Readiness {
     /// The first member with something to poll.
     Ready(EndpointId),

@@ -12,7 +12,7 @@ use crate::sending::SendEnd;
 /// let mut ends = Ends::new();
 /// let sent = ends.sending.bind(message, slot);
 /// ```
-#[derive(Clone, Copy, PartialEq, Eq, Debug)]
+#[derive(Clone, Copy, PartialEq, Eq)]
 pub struct Ends {
     pub sending: SendEnd,
     pub receiving: RecvEnd,

@@ -16,7 +16,7 @@ use std::marker::Model;
 ///     Arrival::Stale => {}
 /// }
 /// ```
-#[derive(Clone, Copy, PartialEq, Eq, Debug)]
+#[derive(Clone, Copy, PartialEq, Eq)]
 pub enum Arrival {
     /// One of the past, which gets no answer.
     Stale,
@@ -28,7 +28,7 @@ pub enum Arrival {
 
 /// The receiving end of a channel. Contracts see it as its `Mark`: the sequence and the attempt of the last parcel that
 /// was decided on, and the verdict on it.
-#[derive(Clone, Copy, PartialEq, Eq, Debug)]
+#[derive(Clone, Copy, PartialEq, Eq)]
 pub struct RecvEnd {
     seq: u32,
     attempt: u8,

@@ -12,7 +12,7 @@ use std::marker::Model;
 /// ```
 /// let tries = end.busy().map(|bound| bound.attempt);
 /// ```
-#[derive(Clone, Copy, PartialEq, Eq, Debug)]
+#[derive(Clone, Copy, PartialEq, Eq)]
 pub struct Bound {
     pub message: Message,
     /// Where its endpoint keeps it.
@@ -27,7 +27,7 @@ pub struct Bound {
 /// let sent = end.bind(message, slot);
 /// emit(sent);
 /// ```
-#[derive(Clone, Copy, PartialEq, Eq, Debug)]
+#[derive(Clone, Copy, PartialEq, Eq)]
 pub struct Sent {
     /// The number of the binding, from 1.
     pub seq: u32,
@@ -43,7 +43,7 @@ pub struct Sent {
 ///     TimedOut::GaveUp(bound) => give_up(bound),
 /// }
 /// ```
-#[derive(Clone, Copy, PartialEq, Eq, Debug)]
+#[derive(Clone, Copy, PartialEq, Eq)]
 pub enum TimedOut {
     /// The bound message is sent again, by these numbers.
     Resend(Sent),
@@ -58,7 +58,7 @@ pub enum TimedOut {
 ///     settle(bound.slot, verdict);
 /// }
 /// ```
-#[derive(Clone, Copy, PartialEq, Eq, Debug)]
+#[derive(Clone, Copy, PartialEq, Eq)]
 pub enum Settled {
     /// This message got this verdict, and is bound no more.
     Done(Bound, Verdict),
@@ -73,7 +73,7 @@ pub enum Settled {
 /// let mut end = SendEnd::new();
 /// let sent = end.bind(message, slot);
 /// ```
-#[derive(Clone, Copy, PartialEq, Eq, Debug)]
+#[derive(Clone, Copy, PartialEq, Eq)]
 pub struct SendEnd {
     seq: u32,
     bound: Option<Bound>,

@@ -18,7 +18,7 @@ use am_office_entries::Event;
 pub use numbers::printed_number;
 
 /// What a line of a printed journal tells.
-#[derive(Clone, Copy, PartialEq, Eq, Debug)]
+#[derive(Clone, Copy, PartialEq, Eq)]
 pub struct PrintedEntry {
     pub event: Event,
 }

@@ -37,7 +37,7 @@ use std::thread::Threads;
 use thiserror::Error;
 
 /// A run that came to its end.
-#[derive(Debug, Drop)]
+#[derive(Drop)]
 pub struct Finished {
     pub journal: RunJournal,
 }

@@ -33,7 +33,7 @@ use am_scenario_types::ScriptCall;
 pub use rules::{next_turn, receipt};
 
 /// An endpoint, and what is known of it wherever it lies.
-#[derive(Clone, Copy, PartialEq, Eq, Debug)]
+#[derive(Clone, Copy, PartialEq, Eq)]
 pub struct EndHead {
     pub id: EndpointId,
     pub node: NodeId,
@@ -41,7 +41,7 @@ pub struct EndHead {
 }
 
 /// An endpoint, and what its lists ask of a drain.
-#[derive(Clone, Copy, PartialEq, Eq, Debug)]
+#[derive(Clone, Copy, PartialEq, Eq)]
 pub struct EndMail {
     pub id: EndpointId,
     pub node: NodeId,
@@ -54,7 +54,7 @@ pub struct EndMail {
 }
 
 /// What an endpoint is looked for, while no wanted endpoint is on disk.
-#[derive(Clone, Copy, PartialEq, Eq, Debug)]
+#[derive(Clone, Copy, PartialEq, Eq)]
 pub enum EndTest {
     /// A reply is queued.
     Reply,
@@ -65,14 +65,14 @@ pub enum EndTest {
 }
 
 /// A node, and a peer that it receives from or has channels to.
-#[derive(Clone, Copy, PartialEq, Eq, Debug)]
+#[derive(Clone, Copy, PartialEq, Eq)]
 pub struct NodePair {
     pub node: NodeId,
     pub peer: NodeId,
 }
 
 /// The next call of a thread, and how many it has made.
-#[derive(Clone, Copy, PartialEq, Eq, Debug)]
+#[derive(Clone, Copy, PartialEq, Eq)]
 pub struct LeftCall {
     pub after: u32,
     pub call: ScriptCall,

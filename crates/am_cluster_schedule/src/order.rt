@@ -17,7 +17,7 @@ use std::alloc::Global;
 const STREAM: u64 = 54;
 
 /// A worker's part in the crew of its node.
-#[derive(Clone, Copy, PartialEq, Eq, Debug)]
+#[derive(Clone, Copy, PartialEq, Eq)]
 pub enum Role {
     /// The thread with this place among the node's.
     Thread(usize),
@@ -26,7 +26,7 @@ pub enum Role {
 }
 
 /// A worker of the crews of all nodes.
-#[derive(Clone, Copy, PartialEq, Eq, Debug)]
+#[derive(Clone, Copy, PartialEq, Eq)]
 pub struct Worker {
     /// The place of its crew among the crews.
     pub crew: usize,

@@ -17,7 +17,7 @@ use am_office_entries::Place;
 use std::marker::Model;
 
 /// A line of a view: what the driver last saw of an endpoint.
-#[derive(Clone, Copy, PartialEq, Eq, Debug)]
+#[derive(Clone, Copy, PartialEq, Eq)]
 pub struct EndView {
     pub id: EndpointId,
     /// Where it lies.
@@ -32,7 +32,7 @@ pub struct EndView {
 }
 
 /// What a driver knows of its node.
-#[derive(Debug, Drop)]
+#[derive(Drop)]
 pub struct View {
     /// A line for each endpoint of the node, in ascending order of their numbers: the least endpoint is the first.
     pub ends: Vec<EndView>,
@@ -53,7 +53,7 @@ impl Model for View {
 }
 
 /// What a driver may do with an endpoint.
-#[derive(Clone, Copy, PartialEq, Eq, Debug)]
+#[derive(Clone, Copy, PartialEq, Eq)]
 pub enum Move {
     /// It binds no message until it is loaded again.
     Drain(EndpointId),

@@ -43,7 +43,7 @@ pub enum HandlerFault {
 }
 
 /// What a handler's run gives.
-#[derive(Clone, Copy, PartialEq, Eq, Debug)]
+#[derive(Clone, Copy, PartialEq, Eq)]
 pub struct Ran {
     /// The endpoint's sum after it.
     pub sum: u64,

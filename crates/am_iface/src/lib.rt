@@ -58,7 +58,7 @@ use std::alloc::Global;
 use std::marker::Model;
 
 /// What a turn did: its entry, and the packet that the entry emits, if it emits one.
-#[derive(Clone, Copy, PartialEq, Eq, Debug)]
+#[derive(Clone, Copy, PartialEq, Eq)]
 pub struct Turned {
     pub entry: Entry,
     pub out: Option<Packet>,

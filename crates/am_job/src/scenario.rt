@@ -15,7 +15,7 @@ use std::alloc::{AllocError, Global};
 use std::marker::Model;
 
 /// How the words of a text are sent.
-#[derive(Debug, Drop)]
+#[derive(Drop)]
 pub struct Job {
     /// The scenario of each round, in order.
     pub rounds: Vec<Scenario>,

@@ -6,7 +6,7 @@ use am_scenario_types::Network;
 use std::marker::Model;
 
 /// The lines of a part of a report's journal: so many from the first one on.
-#[derive(Clone, Copy, PartialEq, Eq, Debug)]
+#[derive(Clone, Copy, PartialEq, Eq)]
 pub struct Lines {
     /// The first line, at least 3.
     pub first: u32,
@@ -59,7 +59,7 @@ pub struct Cross {
 }
 
 /// Where an endpoint lies, and whether it drains there.
-#[derive(Clone, Copy, PartialEq, Eq, Debug)]
+#[derive(Clone, Copy, PartialEq, Eq)]
 pub enum Residency {
     /// Nowhere in particular: in the direct network.
     Direct,
@@ -72,7 +72,7 @@ pub enum Residency {
 }
 
 /// How an endpoint stands: where it lies, and how much it holds.
-#[derive(Clone, Copy, PartialEq, Eq, Debug)]
+#[derive(Clone, Copy, PartialEq, Eq)]
 pub struct Standing {
     pub residency: Residency,
     /// How many records of requests are out, 0 to 32.

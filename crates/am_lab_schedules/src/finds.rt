@@ -19,7 +19,7 @@ use am_scenario::{Form, ReadFault, Scenario, read};
 use std::alloc::{AllocError, Global};
 
 /// Which reports are looked for.
-#[derive(Clone, Copy, PartialEq, Eq, Debug)]
+#[derive(Clone, Copy, PartialEq, Eq)]
 pub enum Wanted {
     /// Those with a line that begins with the words.
     WithLine,

@@ -4,7 +4,7 @@ use am_scenario_types::Network;
 
 /// What a cluster begins with beside its endpoints and failing page calls, each number in the range that the scenario
 /// text gives it.
-#[derive(Clone, Copy, PartialEq, Eq, Debug)]
+#[derive(Clone, Copy, PartialEq, Eq)]
 pub struct Settings {
     pub network: Network,
     pub nodes: u8,

@@ -7,7 +7,7 @@ use am_check_lines::printed_number;
 use am_scenario::Form;
 
 /// What the words ask for.
-#[derive(Clone, Copy, PartialEq, Eq, Debug)]
+#[derive(Clone, Copy, PartialEq, Eq)]
 pub enum Command {
     /// `step`: the report of the history that follows the lines of a step script, which the source gives.
     Step,

@@ -15,7 +15,7 @@ use std::alloc::Global;
 use std::thread::Threads;
 
 /// How the program ends: the number that the process ends with. docs/MANUAL.md lists them.
-#[derive(Clone, Copy, Debug, PartialEq, Eq)]
+#[derive(Clone, Copy, PartialEq, Eq)]
 pub struct Status {
     pub number: u8,
 }

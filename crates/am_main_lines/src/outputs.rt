@@ -9,7 +9,7 @@ use am_scenario_types::ScenarioFault;
 use std::alloc::{AllocError, Global};
 
 /// A status, and the text that is printed with it.
-#[derive(Debug, Drop)]
+#[derive(Drop)]
 pub struct Output {
     pub status: u8,
     pub text: Vec<u8>,

@@ -23,7 +23,7 @@ pub use ranges::{are_credits_in_range, is_kind_in_range, sum_of_shares};
 
 /// Where the requests of an index go, under which tag, and how many may be out: its credits, or
 /// its least share where the endpoint has a pool.
-#[derive(Clone, Copy, PartialEq, Eq, Debug)]
+#[derive(Clone, Copy, PartialEq, Eq)]
 pub struct Mapping {
     pub name: EndpointId,
     pub tag: Tag,
@@ -31,7 +31,7 @@ pub struct Mapping {
 }
 
 /// A request whose reply is awaited, or has arrived and not run.
-#[derive(Clone, Copy, PartialEq, Eq, Debug)]
+#[derive(Clone, Copy, PartialEq, Eq)]
 pub struct Awaited {
     pub index: u8,
     pub serial: Serial,
@@ -39,14 +39,14 @@ pub struct Awaited {
 }
 
 /// A message that is queued to be sent, and how often it bounced.
-#[derive(Clone, Copy, PartialEq, Eq, Debug)]
+#[derive(Clone, Copy, PartialEq, Eq)]
 pub struct Queued {
     pub message: Message,
     pub bounces: u8,
 }
 
 /// A message that is in flight, how often it bounced, and whether a reply to it was put.
-#[derive(Clone, Copy, PartialEq, Eq, Debug)]
+#[derive(Clone, Copy, PartialEq, Eq)]
 pub struct Flying {
     pub message: Message,
     pub bounces: u8,
@@ -54,7 +54,7 @@ pub struct Flying {
 }
 
 /// A message that came back, how often it bounced, and why.
-#[derive(Clone, Copy, PartialEq, Eq, Debug)]
+#[derive(Clone, Copy, PartialEq, Eq)]
 pub struct Notice {
     pub message: Message,
     pub bounces: u8,
@@ -74,7 +74,7 @@ pub enum EntryFault {
 }
 
 /// What is known of an endpoint wherever it lies.
-#[derive(Clone, Copy, PartialEq, Eq, Debug)]
+#[derive(Clone, Copy, PartialEq, Eq)]
 pub struct Head {
     pub place: Place,
     pub wanted: bool,

@@ -12,7 +12,7 @@ use am_office_entries::Event;
 use am_scenario_types::ScriptCall;
 
 /// A turn of the drain.
-#[derive(Clone, Copy, PartialEq, Eq, Debug)]
+#[derive(Clone, Copy, PartialEq, Eq)]
 pub enum Turn {
     /// An event by itself: a receipt, a time-out, a page-in or a poll.
     Once(Event),

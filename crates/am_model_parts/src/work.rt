@@ -7,7 +7,7 @@ use am_names::{EndpointId, NodeId, Packet};
 
 /// What an interface may do next. Its event, its outcome and the endpoint that it touches are found by the interface's
 /// own log, the state of one endpoint and the packet in hand.
-#[derive(Clone, Copy, PartialEq, Eq, Debug)]
+#[derive(Clone, Copy, PartialEq, Eq)]
 pub enum Work {
     /// Receives a packet that came out of a link to this node.
     Receive(Packet),

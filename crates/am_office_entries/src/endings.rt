@@ -6,7 +6,7 @@ ghost use Rattle.std.specs.Prelude.{◌≡◌, option_to_list};
 use am_names::Cause;
 
 /// What became of an accepted message.
-#[derive(Clone, Copy, PartialEq, Eq, Debug)]
+#[derive(Clone, Copy, PartialEq, Eq)]
 pub enum Fate {
     /// A poll ran it, also where no handler stood, and nothing is said of it that counts more.
     Ran,

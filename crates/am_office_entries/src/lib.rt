@@ -14,11 +14,13 @@ pub use endings::Fate;
 pub use fates::fate;
 pub use growing::growth;
 pub use roles::{accepted_of, given_up_of, return_of, run_of, unknown_of};
+use std::fmt;
+use std::fmt::Debug;
 use std::marker::Model;
 pub use touched::node_touched;
 
 /// What a handler does when a message runs it.
-#[derive(Clone, Copy, PartialEq, Eq, Debug)]
+#[derive(Clone, Copy, PartialEq, Eq)]
 pub enum HandlerKind {
     /// It does nothing more than run.
     Note,
@@ -30,7 +32,7 @@ pub enum HandlerKind {
 }
 
 /// Which events of its endpoints a bundle tells.
-#[derive(Clone, Copy, PartialEq, Eq, Debug)]
+#[derive(Clone, Copy, PartialEq, Eq)]
 pub enum Mask {
     /// None.
     NoEvents,
@@ -39,7 +41,7 @@ pub enum Mask {
 }
 
 /// A call that an application makes on an endpoint.
-#[derive(Clone, Copy, PartialEq, Eq, Debug)]
+#[derive(Clone, Copy, PartialEq, Eq)]
 pub enum Call {
     /// Sends a request by a mapped index, 0 to 15, for a handler, 0 to 255, of the endpoint that the index names.
     Request {
@@ -75,7 +77,7 @@ pub enum Call {
 }
 
 /// Who makes a call.
-#[derive(Clone, Copy, PartialEq, Eq, Debug)]
+#[derive(Clone, Copy, PartialEq, Eq)]
 pub enum Actor {
     /// The thread with this number, 0 to 63, by its script.
     Thread(u8),
@@ -91,7 +93,7 @@ pub enum Part {
 }
 
 /// Where an endpoint lies.
-#[derive(Clone, Copy, PartialEq, Eq, Debug)]
+#[derive(Clone, Copy, PartialEq, Eq)]
 pub enum Place {
     Host,
     Disk,
@@ -125,7 +127,7 @@ pub enum Condition {
 
 /// What may happen. `end` is the endpoint that it happens to, `node` the node whose interface or driver acts, and
 /// `peer` the node at the other end.
-#[derive(Clone, Copy, PartialEq, Eq, Debug)]
+#[derive(Clone, Copy, PartialEq, Eq)]
 pub enum Event {
     /// An application makes a call.
     Call {
@@ -188,7 +190,7 @@ pub enum Event {
 }
 
 /// Why a call did nothing. Which refusals a call has, and in which order, is defined above, by the machine.
-#[derive(Clone, Copy, PartialEq, Eq, Debug)]
+#[derive(Clone, Copy, PartialEq, Eq)]
 pub enum Refusal {
     Closed,
     OwnTagNone,
@@ -216,7 +218,7 @@ pub enum Refusal {
 }
 
 /// What came of the receipt of a packet.
-#[derive(Clone, Copy, PartialEq, Eq, Debug)]
+#[derive(Clone, Copy, PartialEq, Eq)]
 pub enum Received {
     /// A fresh message was put at its destination. The answer with this number goes back.
     Accepted {
@@ -277,7 +279,7 @@ impl Received {
 
 /// What came of an event. It carries the whole message where one is accepted, put, refused, sent or run, and how often
 /// a message was queued again where it is.
-#[derive(Clone, Copy, PartialEq, Eq, Debug)]
+#[derive(Clone, Copy, PartialEq, Eq)]
 pub enum Outcome {
     /// An event that prints no outcome.
     Silent,
@@ -346,7 +348,7 @@ pub enum Outcome {
 
 /// An event with its outcome. Stamps rise along a journal: each is above those of the earlier entries that touch a part
 /// of this one.
-#[derive(Clone, Copy, PartialEq, Eq, Debug)]
+#[derive(Clone, Copy, PartialEq, Eq)]
 pub struct Entry {
     pub stamp: u64,
     pub event: Event,
@@ -356,7 +358,7 @@ pub struct Entry {
 const _: () = prove!(size_of::<Entry>() <= 256);
 
 /// Entries in order. Contracts see the list of the entries.
-#[derive(Drop, Debug)]
+#[derive(Drop)]
 pub struct Journal {
     pub entries: Vec<Entry>,
 }
@@ -368,4 +370,10 @@ impl Model for Journal {
     ghost Value = { List Entry };
 
     ghost view = { λ journal. journal.entries.items };
+}
+
+impl Debug for Journal {
+    fn fmt<W: fmt::Write>(&self, f: &mut fmt::Formatter<W>) -> fmt::Result {
+        f.write_str("Journal")
+    }
 }

@@ -3,7 +3,7 @@
 use thiserror::Error;
 
 /// What the receiver says of a fresh parcel.
-#[derive(Clone, Copy, PartialEq, Eq, Debug)]
+#[derive(Clone, Copy, PartialEq, Eq)]
 pub enum Say {
     /// The message is put.
     Accept,
@@ -14,7 +14,7 @@ pub enum Say {
 }
 
 /// An event of a session. Packets of each side are numbered from 1 in order of emission.
-#[derive(Clone, Copy, PartialEq, Eq, Debug)]
+#[derive(Clone, Copy, PartialEq, Eq)]
 pub enum SessionEvent {
     /// The sender's host offers the next message.
     Offer,
@@ -36,7 +36,7 @@ pub enum SessionEvent {
 
 /// What came of an event. A message goes by its number: they are offered as 1, 2 and so on. A packet goes by its number
 /// among those of its side.
-#[derive(Clone, Copy, PartialEq, Eq, Debug)]
+#[derive(Clone, Copy, PartialEq, Eq)]
 pub enum SessionOutcome {
     /// It happened, and there is no more to say.
     Done,
@@ -90,7 +90,7 @@ pub enum SessionOutcome {
 }
 
 /// An event with its outcome.
-#[derive(Clone, Copy, PartialEq, Eq, Debug)]
+#[derive(Clone, Copy, PartialEq, Eq)]
 pub struct SessionEntry {
     pub event: SessionEvent,
     pub outcome: SessionOutcome,

@@ -1,7 +1,7 @@
 //! What becomes of a message.
 
 /// What the entries of a session tell of a message that was offered.
-#[derive(Clone, Copy, PartialEq, Eq, Debug)]
+#[derive(Clone, Copy, PartialEq, Eq)]
 pub enum SessionFate {
     /// The receiver put it.
     Put,

@@ -3,7 +3,7 @@
 use am_names::NodeId;
 
 /// What a link does with a packet.
-#[derive(Clone, Copy, PartialEq, Eq, Debug)]
+#[derive(Clone, Copy, PartialEq, Eq)]
 pub enum LinkFault {
     /// The packet is never released.
     Lose,
@@ -14,7 +14,7 @@ pub enum LinkFault {
 }
 
 /// A packet of a link, by its place among those emitted there, and what becomes of it.
-#[derive(Clone, Copy, PartialEq, Eq, Debug)]
+#[derive(Clone, Copy, PartialEq, Eq)]
 pub struct PlanLine {
     /// The node that emits on the link.
     pub from: NodeId,

@@ -10,7 +10,7 @@ use am_names::{NoMemory, NodeId, Packet};
 use std::alloc::Global;
 
 /// A packet that is released later.
-#[derive(Clone, Copy, Debug)]
+#[derive(Clone, Copy)]
 struct LatePacket {
     /// The emission that releases it.
     due: u64,

@@ -9,10 +9,12 @@ pub use am_lexer::What;
 pub use am_scenario_plan::{LinkFault, PlanLine};
 pub use faults::{ReadFault, ScenarioFault};
 pub use parts::{EndLine, FaultLine, Form, Network, ScriptCall, StepLine, ThreadLine};
+use std::fmt;
+use std::fmt::Debug;
 use std::marker::Model;
 
 /// What a run begins with and what it is to do.
-#[derive(Debug, Drop)]
+#[derive(Drop)]
 pub struct Scenario {
     /// How the messages go.
     pub network: Network,
@@ -74,4 +76,10 @@ impl Model for Scenario {
       script = s.script.items;
       steps = s.steps.items;
     } };
+}
+
+impl Debug for Scenario {
+    fn fmt<W: fmt::Write>(&self, f: &mut fmt::Formatter<W>) -> fmt::Result {
+        f.write_str("Scenario")
+    }
 }

@@ -13,7 +13,7 @@ pub enum Form {
 }
 
 /// How the messages go.
-#[derive(Clone, Copy, PartialEq, Eq, Debug)]
+#[derive(Clone, Copy, PartialEq, Eq)]
 pub enum Network {
     /// From endpoint to endpoint at once.
     Direct,
@@ -22,7 +22,7 @@ pub enum Network {
 }
 
 /// An endpoint, as it is declared.
-#[derive(Clone, Copy, PartialEq, Eq, Debug)]
+#[derive(Clone, Copy, PartialEq, Eq)]
 pub struct EndLine {
     pub id: EndpointId,
     /// The node that it is on.
@@ -34,7 +34,7 @@ pub struct EndLine {
 }
 
 /// A thread, as it is declared.
-#[derive(Clone, Copy, PartialEq, Eq, Debug)]
+#[derive(Clone, Copy, PartialEq, Eq)]
 pub struct ThreadLine {
     /// The thread's number, 0 to 63.
     pub id: u8,
@@ -43,7 +43,7 @@ pub struct ThreadLine {
 }
 
 /// A page call of a node that fails.
-#[derive(Clone, Copy, PartialEq, Eq, Debug)]
+#[derive(Clone, Copy, PartialEq, Eq)]
 pub struct FaultLine {
     pub node: NodeId,
     /// The call's place among the page calls of the node, 1 to 65,536.
@@ -51,7 +51,7 @@ pub struct FaultLine {
 }
 
 /// A call of a thread.
-#[derive(Clone, Copy, PartialEq, Eq, Debug)]
+#[derive(Clone, Copy, PartialEq, Eq)]
 pub struct ScriptCall {
     /// The thread that makes it.
     pub thread: u8,
@@ -61,7 +61,7 @@ pub struct ScriptCall {
 }
 
 /// An event of a step script.
-#[derive(Clone, Copy, PartialEq, Eq, Debug)]
+#[derive(Clone, Copy, PartialEq, Eq)]
 pub struct StepLine {
     /// The line that it stands in, from 1.
     pub line: u32,

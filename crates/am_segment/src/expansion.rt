@@ -8,7 +8,7 @@ use std::alloc::Global;
 use std::marker::Model;
 
 /// A text with segments, expanded: the scenario's text that it stands for.
-#[derive(Debug, Drop)]
+#[derive(Drop)]
 pub struct Expanded {
     /// The text, in the form Run. Each of its lines has its end.
     pub text: Vec<u8>,

@@ -13,7 +13,7 @@ use am_scenario::{Form, ReadFault, Scenario, ScenarioFault, read};
 use std::alloc::Global;
 
 /// A scenario with segments and transfers.
-#[derive(Debug, Drop)]
+#[derive(Drop)]
 pub struct SegmentScenario {
     pub expanded: Expanded,
     /// The scenario that the expanded text spells.

@@ -4,7 +4,7 @@ use crate::bytes::word_at;
 use am_names::Words;
 
 /// A part of a block, as the words of a request carry it.
-#[derive(Clone, Copy, PartialEq, Eq, Debug)]
+#[derive(Clone, Copy, PartialEq, Eq)]
 pub struct Piece {
     /// The transfer that it is of, by its place among the scenario's transfers, from 1.
     pub transfer: u32,

@@ -17,7 +17,7 @@ use std::alloc::Global;
 use std::collections::HashSet;
 
 /// How much of a transfer ran.
-#[derive(Clone, Copy, PartialEq, Eq, Debug)]
+#[derive(Clone, Copy, PartialEq, Eq)]
 pub struct TransferRan {
     /// The transfer, by its place among the scenario's transfers, from 1.
     pub number: u32,

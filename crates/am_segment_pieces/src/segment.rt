@@ -12,7 +12,7 @@ use am_office_entries::{Call, Entry, Event, NoMemory, Outcome};
 use std::alloc::Global;
 
 /// A segment of an endpoint: the pieces that run one of its handlers are written there.
-#[derive(Clone, Copy, PartialEq, Eq, Debug)]
+#[derive(Clone, Copy, PartialEq, Eq)]
 pub struct SegmentLine {
     pub end: EndpointId,
     /// The handler, 1 to 15.

@@ -6,7 +6,7 @@ use am_names::EndpointId;
 use std::marker::Model;
 
 /// A block, and the place where it belongs. The block has 1 to 512 bytes, and ends at most at place 65,536.
-#[derive(Debug, Drop)]
+#[derive(Drop)]
 pub struct Transfer {
     /// The endpoint that has the segment.
     pub dest: EndpointId,

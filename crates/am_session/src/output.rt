@@ -18,7 +18,7 @@ use am_names::NoMemory;
 use std::alloc::{AllocError, Global};
 
 /// A status, and the text that is printed with it.
-#[derive(Debug, Drop)]
+#[derive(Drop)]
 pub struct SessionOutput {
     /// 0 with a report, or 3 with one line that tells what was refused.
     pub status: u8,

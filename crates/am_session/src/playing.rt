@@ -12,7 +12,7 @@ use std::alloc::Global;
 use std::marker::Model;
 
 /// The entries of the events that happened, and what stopped the next one, if anything did.
-#[derive(Debug, Drop)]
+#[derive(Drop)]
 pub struct Played {
     pub entries: Vec<SessionEntry>,
     pub stopped: Option<Stop>,

@@ -10,14 +10,14 @@ use std::marker::Model;
 use thiserror::Error;
 
 /// An event, and the line in which it stands, from 1.
-#[derive(Clone, Copy, PartialEq, Eq, Debug)]
+#[derive(Clone, Copy, PartialEq, Eq)]
 pub struct SessionStep {
     pub line: u32,
     pub event: SessionEvent,
 }
 
 /// The events of a session in order, and how many tries a message has.
-#[derive(Debug, Drop)]
+#[derive(Drop)]
 pub struct SessionScript {
     pub tries: u8,
     pub steps: Vec<SessionStep>,

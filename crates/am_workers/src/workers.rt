@@ -11,7 +11,7 @@ use am_wire::{LinkIn, LinkOut};
 use am_workers_laws::books::EndBook;
 
 /// Why a worker makes no further turn.
-#[derive(Clone, Copy, PartialEq, Eq, Debug)]
+#[derive(Clone, Copy, PartialEq, Eq)]
 pub enum Stop {
     /// A log has as many entries as it may, and its next entry would go there.
     LogFull,

@@ -7,7 +7,7 @@ use am_names::Words;
 use am_segment_pieces::{padded, word_at};
 
 /// A word of a text, as a request carries it.
-#[derive(Clone, Copy, PartialEq, Eq, Debug)]
+#[derive(Clone, Copy, PartialEq, Eq)]
 pub struct CodedWord {
     /// Its length, 0 to 24, and its bytes with zeros after them, eight in each word, the first the greatest.
     pub words: Words,

@@ -6,7 +6,7 @@ use std::alloc::Global;
 use std::marker::Model;
 
 /// How often a word ran, and how often it was sent beyond that.
-#[derive(Debug, Drop)]
+#[derive(Drop)]
 pub struct WordCount {
     /// The word's bytes, 1 to 24.
     pub word: Vec<u8>,

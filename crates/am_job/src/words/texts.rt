@@ -10,7 +10,7 @@ use am_names::NoMemory;
 use std::alloc::Global;
 
 /// The words of a text.
-#[derive(Debug, Drop)]
+#[derive(Drop)]
 pub struct TextWords {
     /// The words of at most 24 bytes, in order, as they are sent.
     pub sent: Vec<CodedWord>,

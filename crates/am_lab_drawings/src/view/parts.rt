@@ -7,7 +7,7 @@ use am_lab_picture::Lines;
 use thiserror::Error;
 
 /// A part of a report's journal: the lines from one to another, both shown.
-#[derive(Clone, Copy, PartialEq, Eq, Debug)]
+#[derive(Clone, Copy, PartialEq, Eq)]
 pub struct LineRange {
     pub from: u32,
     pub to: u32,
