@@ -24,9 +24,9 @@ use Rattle.am_laws_runs.proofs.Logs.{room_keeps_logs}
 use Rattle.am_laws_runs.proofs.Drained.{runs_are_short}
 use Rattle.am_cluster_scripted.specs.Links.{AreFed, Released}
 use Rattle.am_cluster_scripted.specs.Scripted.{AreParts, fed_by}
-use Rattle.am_cluster_scripted.specs.Calls.Threads.{Scripted, scripted_of, with_call_if}
+use Rattle.am_cluster_calls.specs.Threads.{Scripted, scripted_of, with_call_if}
 use Rattle.am_cluster_scripted.proofs.Growing.{fed_after}
-use Rattle.am_cluster_scripted.proofs.CallsGrowing.{called_after}
+use Rattle.am_cluster_calls.proofs.CallsGrowing.{called_after}
 use Rattle.am_model_scripts.specs.Layout.{layout_of}
 use Rattle.am_model_drain.specs.Cut.{MeetsNoFullLog, full_for}
 use Rattle.am_model_drain.specs.Made.{after_event, next_entry}

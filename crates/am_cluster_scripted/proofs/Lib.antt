@@ -14,10 +14,3 @@ pub mod EndMarked
 pub mod PairMarked
 pub mod Marking
 pub mod Ways
-pub mod Calling
-pub mod Leaving
-pub mod CallsGrowing
-pub mod CallSteps
-pub mod Fewest
-pub mod Lowest
-pub mod Counting

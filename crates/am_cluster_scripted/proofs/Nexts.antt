@@ -7,8 +7,8 @@ use Rattle.am_scenario_types.specs.declared.parts.ThreadLine.{ThreadLine}
 use Rattle.am_scenario_types.specs.Lists.{ScenarioLists}
 use Rattle.am_model_scripts.specs.Follows.{is_thread}
 use Rattle.am_model_scripts.specs.Scripts.{call_left}
-use Rattle.am_cluster_scripted.specs.declared.calls.threads.ThreadScript.{ThreadScript}
-use Rattle.am_cluster_scripted.specs.Calls.Threads.{Scripted, call_in, call_of, next_in, scripted_in, scripted_of}
+use Rattle.am_cluster_calls.specs.declared.threads.ThreadScript.{ThreadScript}
+use Rattle.am_cluster_calls.specs.Threads.{Scripted, call_in, call_of, next_in, scripted_in, scripted_of}
 
 -- the threads with their scripts are those that are declared
 next_among : (s : ScenarioLists) (past : List Entry) (thread : ℕ) (ts : List ThreadScript) (lines : List ThreadLine) →

@@ -5,4 +5,3 @@ pub mod Tries
 pub mod Touched
 pub mod EndMarks
 pub mod PairMarks
-pub mod Calls

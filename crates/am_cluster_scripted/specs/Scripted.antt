@@ -15,8 +15,8 @@ use Rattle.am_machine.specs.View.{ClusterView}
 use Rattle.am_cluster_scripted.specs.EndMarks.{AreMarked}
 use Rattle.am_cluster_scripted.specs.PairMarks.{ArePaired}
 use Rattle.am_cluster_scripted.specs.Links.{AreFed, IsSpared, Released, fed_at, released_in}
-use Rattle.am_cluster_scripted.specs.Calls.Lows.{IsLow}
-use Rattle.am_cluster_scripted.specs.Calls.Threads.{scripted_in, scripted_of}
+use Rattle.am_cluster_calls.specs.Lows.{IsLow}
+use Rattle.am_cluster_calls.specs.Threads.{scripted_in, scripted_of}
 use Rattle.am_cluster_scripted.specs.declared.scripted.ScriptedCluster.TheInside.{Inside}
 
 -- a scenario, and the journal that was made of it

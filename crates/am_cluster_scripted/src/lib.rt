@@ -11,11 +11,10 @@ ghost use Rattle.am_laws_runs.specs.Drained.{HasShortLogs};
 ghost use Rattle.am_scenario_types.specs.Lawful.{IsLawful};
 ghost use Rattle.am_scenario_types.specs.declared.parts.Network.TheVariants.{Packet};
 ghost use Rattle.am_scenario_types.specs.declared.parts.ThreadLine.{ThreadLine};
-ghost use Rattle.am_cluster_scripted.specs.Calls.Threads.{scripted_in, scripted_of};
+ghost use Rattle.am_cluster_calls.specs.Threads.{scripted_in, scripted_of};
 ghost use Rattle.am_model_scripts.specs.Scripts.{calls_of};
 ghost use Rattle.std.specs.Prelude.{◌≡◌, IfErr, IfOk, OnOk, length, map};
 
-pub mod calls;
 mod emissions;
 mod end_marks;
 mod firsts;
@@ -28,7 +27,7 @@ mod scripted;
 mod touched;
 mod tries;
 
-use crate::calls::{ThreadScript, scripts_after, tell_made};
+use am_cluster_calls::{ThreadScript, scripts_after, tell_made};
 use crate::emissions::links_after;
 use crate::end_marks::all_shown;
 use crate::pair_marks::all_pairs;

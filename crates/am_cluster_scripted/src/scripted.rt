@@ -8,7 +8,7 @@ ghost use Rattle.am_model.specs.History.{IsHistory, is_in_range};
 ghost use Rattle.am_model.specs.Merge.{is_ordered};
 ghost use Rattle.am_cluster_scripted.specs.Scripted.{AreParts, cluster_of};
 ghost use Rattle.am_cluster_scripted.specs.Tries.{IsLastIfMade};
-ghost use Rattle.am_cluster_scripted.specs.Calls.Threads.{scripted_in, scripted_of};
+ghost use Rattle.am_cluster_calls.specs.Threads.{scripted_in, scripted_of};
 ghost use Rattle.am_model_drain.specs.Cut.{IsDrainedWithRoom};
 ghost use Rattle.am_laws_runs.specs.Turns.Work.{work};
 ghost use Rattle.am_cluster_drainer.specs.Stops.{IsDrainStopped};
@@ -20,7 +20,7 @@ ghost use Rattle.am_model_scripts.specs.Follows.{is_thread};
 ghost use Rattle.am_model_scripts.specs.Scripts.{call_left};
 ghost use Rattle.std.specs.Prelude.{◌≡◌, ◌≤◌, ◌*◌, [], IfErr, IfOk, OnOk, length, map, true};
 
-use crate::calls::{
+use am_cluster_calls::{
     LowMark, ThreadScript, all_scripts, count_event, fewest_from, low_after, next_call, no_low,
 };
 use crate::emissions::{due_on, feed_entry};

@@ -1,4 +1,4 @@
-use Rattle.am_cluster_scripted.proofs.CallsGrowing.{made_told}
+use Rattle.am_cluster_calls.proofs.CallsGrowing.{made_told}
 use Rattle.am_cluster_scripted.proofs.tell_of.Goals as goal
 
 pub returns-clause-made : goal.returns-clause-made

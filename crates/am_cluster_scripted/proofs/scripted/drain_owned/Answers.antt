@@ -1,5 +1,5 @@
 use Rattle.std.proofs.Common.{map}
-use Rattle.am_cluster_scripted.specs.Calls.Threads.{scripted_in}
+use Rattle.am_cluster_calls.specs.Threads.{scripted_in}
 use Rattle.am_cluster_scripted.proofs.scripted.drain_owned.Goals as goal
 
 pub invariant_of-machine : goal.invariant_of-machine

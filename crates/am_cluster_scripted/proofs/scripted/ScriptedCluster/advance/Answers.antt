@@ -9,14 +9,14 @@ use Rattle.am_wire_release.specs.Staged.{Staged}
 use Rattle.am_cluster_scripted.specs.Links.{AreFed, released_in}
 use Rattle.am_cluster_scripted.specs.Scripted.{RunView, cluster_of}
 use Rattle.am_model_scripts.specs.Scripts.{call_made}
-use Rattle.am_cluster_scripted.specs.Calls.Lows.{IsLow}
-use Rattle.am_cluster_scripted.specs.Calls.Threads.{scripted_in}
-use Rattle.am_cluster_scripted.specs.declared.calls.threads.ThreadScript.{ThreadScript}
-use Rattle.am_cluster_scripted.proofs.Counting.{threads_distinct}
-use Rattle.am_cluster_scripted.proofs.Lowest.{low_counted}
+use Rattle.am_cluster_calls.specs.Lows.{IsLow}
+use Rattle.am_cluster_calls.specs.Threads.{scripted_in}
+use Rattle.am_cluster_calls.specs.declared.threads.ThreadScript.{ThreadScript}
+use Rattle.am_cluster_calls.proofs.Counting.{threads_distinct}
+use Rattle.am_cluster_calls.proofs.Lowest.{low_counted}
 use Rattle.am_cluster_scripted.proofs.Applying.{made_read, made_step, makes_in, of_layout, short_of, step_called, step_fed, step_parts}
 use Rattle.am_cluster_scripted.proofs.Growing.{goes_from, goes_to}
-use Rattle.am_cluster_scripted.proofs.CallsGrowing.{made_small}
+use Rattle.am_cluster_calls.proofs.CallsGrowing.{made_small}
 use Rattle.am_cluster_scripted.proofs.Marking.{step_marked, step_paired, step_within}
 use Rattle.am_cluster_scripted.proofs.scripted.ScriptedCluster.advance.Goals as goal
 

@@ -2,7 +2,7 @@ use Rattle.std.proofs.Common.{ℕ, ◌∙◌, ap, sym, map, subst, List}
 use Rattle.am_wire_release.specs.Staged.{Staged}
 use Rattle.am_office_entries.specs.declared.Entry.{Entry}
 use Rattle.am_cluster_scripted.specs.Links.{AreFed, released_in}
-use Rattle.am_cluster_scripted.specs.Calls.Threads.{scripted_in, scripted_of}
+use Rattle.am_cluster_calls.specs.Threads.{scripted_in, scripted_of}
 use Rattle.am_cluster_scripted.proofs.Starting.{begun_parts, fed_nothing}
 use Rattle.am_cluster_scripted.proofs.scripted.ScriptedCluster.new.Goals as goal
 

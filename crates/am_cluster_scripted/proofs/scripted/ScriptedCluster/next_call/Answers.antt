@@ -2,7 +2,7 @@ use Rattle.std.proofs.Common.{◌≡◌, true, sym, ap, ◌∙◌, subst}
 use Rattle.am_model_scripts.specs.Follows.{is_thread}
 use Rattle.am_model_scripts.specs.Scripts.{call_left}
 use Rattle.am_cluster_scripted.specs.Scripted.{RunView}
-use Rattle.am_cluster_scripted.specs.Calls.Threads.{next_in}
+use Rattle.am_cluster_calls.specs.Threads.{next_in}
 use Rattle.am_cluster_scripted.proofs.Nexts.{next_left}
 use Rattle.am_cluster_scripted.proofs.scripted.ScriptedCluster.next_call.Goals as goal
 

@@ -7,9 +7,9 @@ use Rattle.am_cluster_drainer.specs.declared.LeftCall.{LeftCall}
 use Rattle.am_cluster_drainer.specs.Firsts.{IsFewest}
 use Rattle.am_cluster_drainer.specs.Reads.{call_event, left_of}
 use Rattle.am_cluster_scripted.specs.Scripted.{RunView}
-use Rattle.am_cluster_scripted.specs.Calls.Threads.{left_in, scripted_in}
-use Rattle.am_cluster_scripted.specs.declared.calls.threads.ThreadScript.{ThreadScript}
-use Rattle.am_cluster_scripted.proofs.Fewest.{fewest_ranged, fewest_read}
+use Rattle.am_cluster_calls.specs.Threads.{left_in, scripted_in}
+use Rattle.am_cluster_calls.specs.declared.threads.ThreadScript.{ThreadScript}
+use Rattle.am_cluster_calls.proofs.Fewest.{fewest_ranged, fewest_read}
 use Rattle.am_cluster_scripted.proofs.scripted.ScriptedClusterDrainable.fewest.Goals as goal
 
 pub returns-clause-value : goal.returns-clause-value

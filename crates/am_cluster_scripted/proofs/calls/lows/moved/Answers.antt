@@ -1,7 +1,0 @@
-use Rattle.std.proofs.Common.{map}
-use Rattle.am_cluster_scripted.specs.Calls.Threads.{scripted_in}
-use Rattle.am_cluster_scripted.proofs.Lowest.{low_moved}
-use Rattle.am_cluster_scripted.proofs.calls.lows.moved.Goals as goal
-
-pub returns-in-Some : goal.returns-in-Some
-returns-in-Some c = low_moved (map scripted_in c.args.threads.now) c.args.mark.made c.args.mark.from c.in-Some.place c.requires c.in-Some.ensures

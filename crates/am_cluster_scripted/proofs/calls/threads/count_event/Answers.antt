@@ -1,7 +1,0 @@
-use Rattle.std.proofs.Common.{map, sym, ◌∙◌}
-use Rattle.am_cluster_scripted.specs.Calls.Threads.{scripted_in}
-use Rattle.am_cluster_scripted.proofs.CallSteps.{uncalled}
-use Rattle.am_cluster_scripted.proofs.calls.threads.count_event.Goals as goal
-
-pub returns-in-None : goal.returns-in-None
-returns-in-None c = uncalled _ (map scripted_in c.args.threads.now.items) (sym c.call_made.ensures ∙ c.in-None.is)

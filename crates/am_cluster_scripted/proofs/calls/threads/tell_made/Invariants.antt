@@ -1,6 +1,0 @@
-use Rattle.std.proofs.Common.{◌≡◌, map, take}
-use Rattle.am_cluster_scripted.specs.Calls.Threads.{made_in}
-use Rattle.am_cluster_scripted.proofs.calls.threads.tell_made.Given as goal
-
-abbrev pub invariant-loop-index : goal.invariant-loop-index
-invariant-loop-index l = take l.index l.made ≡ map made_in (take l.index l.threads)
