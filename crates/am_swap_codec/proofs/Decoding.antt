@@ -1,5 +1,5 @@
 -- What is decoded is the valid body with these bytes, where there is one.
-use Rattle.std.proofs.Common.{◌≡◌, ℕ, true, false, cond, List, length, Option, Some, None, refl, sym, ap, ◌∙◌}
+use Rattle.std.proofs.Common.{◌≡◌, ℕ, true, false, List, length, Option, Some, None, refl, sym, ap, ◌∙◌}
 use Rattle.std.specs.Prelude.{◌==◌, Bool, is_some, if◌then◌else◌}
 use Rattle.am_lemmas.specs.Options.{◌>>=◌}
 use Rattle.am_names.specs.declared.EndpointId.{EndpointId}
@@ -10,7 +10,7 @@ use Rattle.am_swap_image.specs.Reading.{Read, body_at, whole_body}
 use Rattle.am_swap_image.specs.Valid.{IsValid}
 use Rattle.am_swap_image.proofs.Bodies.{IsImage, is_written, whole_again, whole_takes}
 use Rattle.am_swap_codec.specs.Decodes.{Decodes, reads_as_body}
-use Rattle.am_swap_codec.specs.Parts.{behind}
+use Rattle.am_swap_pieces.specs.Answers.{behind}
 use Rattle.am_swap_codec.specs.Tests.{passes}
 use Rattle.am_swap_codec.proofs.Validity.{passes_valid, valid_passes}
 

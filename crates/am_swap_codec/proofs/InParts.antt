@@ -11,7 +11,8 @@ use Rattle.am_model.specs.declared.Notice.{Notice}
 use Rattle.am_model.specs.Endpoint.{Body}
 use Rattle.am_swap_image.specs.Reading.{Read, magic_at, long_at, short_at, many_at, counted_at, mapping_at, record_at, handler_at, message_at, notice_at}
 use Rattle.am_swap_image.specs.Reading.{received_at, body_of, body_at}
-use Rattle.am_swap_codec.specs.Parts.{behind, head_at, tables_at, queues_at, arrivals_at}
+use Rattle.am_swap_pieces.specs.Answers.{behind}
+use Rattle.am_swap_codec.specs.Parts.{head_at, tables_at, queues_at, arrivals_at}
 
 -- one step of a part, in front of the steps behind the part
 step : {A B C : Type 0} (m : Option A) (f : A → Option B) (g : B → Option C) (h : A → Option C) → ((x : A) → (f x >>= g) ≡ h x) → ((m >>= f) >>= g) ≡ (m >>= h)

@@ -3,4 +3,3 @@ pub mod Lists
 pub mod Tests
 pub mod Decodes
 pub mod Parts
-pub mod Pieces

@@ -11,10 +11,6 @@ use Rattle.am_model.specs.declared.Notice.{Notice}
 use Rattle.am_swap_image.specs.Reading.{Read, magic_at, long_at, short_at, many_at, counted_at, mapping_at, record_at, handler_at, message_at, notice_at}
 use Rattle.am_swap_image.specs.Reading.{received_at}
 
--- the bytes behind what is read
-abbrev pub behind : {X : Type 0} → Read X → Option (List ℕ)
-behind read = read >>= λ x. Some x.1
-
 -- the tag, the sum and how many messages were accepted
 unfoldable pub head_at : List ℕ → Read ((ℕ × ℕ) × ℕ)
 head_at bytes = do

@@ -3,8 +3,7 @@
 
 mod lists;
 mod messages;
-pub mod pieces;
 mod valid;
 
-pub use crate::pieces::ImageFault;
+pub use am_swap_pieces::ImageFault;
 pub use lists::BodyLists;

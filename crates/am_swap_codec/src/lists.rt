@@ -1,13 +1,14 @@
-ghost use Rattle.am_swap_codec.specs.Pieces.Answers.{Finds, FindsExactly, Gives};
+ghost use Rattle.am_swap_pieces.specs.Answers.{Finds, FindsExactly, Gives};
 ghost use Rattle.am_swap_codec.specs.Counts.{AreCounted};
 ghost use Rattle.am_swap_codec.specs.Decodes.{Decodes, reads_as_body};
-ghost use Rattle.am_swap_codec.specs.Parts.{arrivals_at, behind, head_at, queues_at, tables_at};
+ghost use Rattle.am_swap_pieces.specs.Answers.{behind};
+ghost use Rattle.am_swap_codec.specs.Parts.{arrivals_at, head_at, queues_at, tables_at};
 ghost use Rattle.am_swap_image.specs.Image.{image};
 ghost use Rattle.am_swap_image.specs.Range.{IsInRange};
 ghost use Rattle.am_swap_image.specs.Reading.{body_at, whole_body};
 ghost use Rattle.std.specs.Prelude.{◌≡◌, ◌++◌, IfErr, IfOk, OnOk, true};
 
-use crate::pieces::{
+use am_swap_pieces::{
     ImageFault, all_in_range, head_in_range, pass_counted, pass_many, put_counted, put_each,
     put_long, put_magic, put_short, take_counted, take_long, take_magic, take_many, take_short,
 };

@@ -9,7 +9,7 @@ use Rattle.am_model.specs.declared.Notice.{Notice}
 use Rattle.am_model.specs.Endpoint.{Body}
 use Rattle.am_swap_image.specs.Image.{magic, long, short, counted, mapping_bytes, record_bytes, handler_bytes, queued_bytes, notice_bytes, received_bytes}
 use Rattle.am_swap_image.specs.Image.{image}
-use Rattle.am_swap_codec.proofs.Turns.{eleven}
+use Rattle.am_swap_pieces.proofs.Turns.{eleven}
 use Rattle.am_swap_codec.proofs.lists.put_image.Goals as goal
 
 pub returns : goal.returns

@@ -1,6 +1,6 @@
 use Rattle.am_swap_image.specs.Image.{about_bytes, byte, kind_number, long, serial_bytes, words_bytes}
-use Rattle.am_swap_codec.proofs.Turns.{nine}
-use Rattle.am_swap_codec.proofs.pieces.writing.put_message.Goals as goal
+use Rattle.am_swap_pieces.proofs.Turns.{nine}
+use Rattle.am_swap_pieces.proofs.writing.put_message.Goals as goal
 
 pub returns : goal.returns
 returns c =

@@ -1,6 +1,6 @@
 use Rattle.am_swap_image.specs.Image.{long}
-use Rattle.am_swap_codec.proofs.Turns.{four}
-use Rattle.am_swap_codec.proofs.pieces.writing.put_words.Goals as goal
+use Rattle.am_swap_pieces.proofs.Turns.{four}
+use Rattle.am_swap_pieces.proofs.writing.put_words.Goals as goal
 
 pub returns : goal.returns
 returns c =

@@ -1,14 +1,14 @@
 // Lists of parts, written and read.
-ghost use Rattle.am_swap_codec.specs.Parts.{behind};
-ghost use Rattle.am_swap_codec.specs.Pieces.Answers.{Finds, Gives};
+ghost use Rattle.am_swap_pieces.specs.Answers.{behind};
+ghost use Rattle.am_swap_pieces.specs.Answers.{Finds, Gives};
 ghost use Rattle.am_swap_image.specs.Image.{counted};
 ghost use Rattle.am_swap_image.specs.Reading.{counted_at, many_at};
 ghost use Rattle.std.specs.Prelude.{◌≡◌, ◌++◌, ◌<◌, OnOk, flat_map, length};
 
-use crate::pieces::fault::ImageFault;
-use crate::pieces::part::ImagePart;
-use crate::pieces::reading::take_byte;
-use crate::pieces::writing::put_byte;
+use crate::fault::ImageFault;
+use crate::part::ImagePart;
+use crate::reading::take_byte;
+use crate::writing::put_byte;
 use am_names::EndpointId;
 use std::alloc::{AllocError, Global};
 

@@ -1,7 +1,7 @@
 use Rattle.am_swap_image.specs.Reading.{many_at}
-use Rattle.am_swap_codec.specs.Parts.{behind}
-use Rattle.am_swap_codec.proofs.Loop.{passes_on, passes_none, has_passed}
-use Rattle.am_swap_codec.proofs.pieces.many.pass_many.Goals as goal
+use Rattle.am_swap_pieces.specs.Answers.{behind}
+use Rattle.am_swap_pieces.proofs.Loop.{passes_on, passes_none, has_passed}
+use Rattle.am_swap_pieces.proofs.many.pass_many.Goals as goal
 
 pub returns-in-None : goal.returns-in-None
 returns-in-None g c =

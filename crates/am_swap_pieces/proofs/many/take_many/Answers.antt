@@ -1,6 +1,6 @@
 use Rattle.am_swap_image.specs.Reading.{many_at}
-use Rattle.am_swap_codec.proofs.Loop.{goes_on, ends, is_done}
-use Rattle.am_swap_codec.proofs.pieces.many.take_many.Goals as goal
+use Rattle.am_swap_pieces.proofs.Loop.{goes_on, ends, is_done}
+use Rattle.am_swap_pieces.proofs.many.take_many.Goals as goal
 
 pub returns-in-None : goal.returns-in-None
 returns-in-None g c =

@@ -3,7 +3,7 @@ use Rattle.std.proofs.Common.{◌≡◌, ℕ, suc, ◌-◌, ◌+◌, ◌≤◌, 
 use Rattle.std.proofs.lemmas.List.{append-nil}
 use Rattle.am_lemmas.specs.Options.{◌>>=◌}
 use Rattle.am_swap_image.specs.Reading.{Read, many_at}
-use Rattle.am_swap_codec.specs.Parts.{behind}
+use Rattle.am_swap_pieces.specs.Answers.{behind}
 
 -- what was read before, and what is still read
 abbrev pub with_front : {X : Type 0} → List X → Read (List X) → Read (List X)

@@ -1,6 +1,6 @@
 //! The parts of an image, read from the front of some bytes, with the bytes behind them.
 
-ghost use Rattle.am_swap_codec.specs.Pieces.Answers.{Gives};
+ghost use Rattle.am_swap_pieces.specs.Answers.{Gives};
 ghost use Rattle.am_swap_image.specs.Reading.{about_at, add_at, byte_at, echo_at, handler_at, handler_by, kind_of, long_at, magic_at, mapping_at, message_at, notice_at, received_at, record_at, serial_at, short_at, some_mapping_at, some_serial_at, state_of, why_of, words_at};
 ghost use Rattle.std.specs.Prelude.{◌≡◌};
 

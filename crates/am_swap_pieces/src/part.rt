@@ -1,20 +1,20 @@
 //! The kinds of parts that an image has lists of.
 
-ghost use Rattle.am_swap_codec.specs.Pieces.Answers.{Gives};
+ghost use Rattle.am_swap_pieces.specs.Answers.{Gives};
 ghost use Rattle.am_swap_image.specs.Image.{handler_bytes, mapping_bytes, notice_bytes, queued_bytes, received_bytes, record_bytes};
 ghost use Rattle.am_swap_image.specs.Range.{fits_handler, fits_mapping, fits_message, fits_notice, fits_queued, fits_record};
 ghost use Rattle.am_swap_image.specs.Reading.{Read, handler_at, mapping_at, message_at, notice_at, received_at, record_at};
 ghost use Rattle.am_names.specs.declared.EndpointId.{EndpointId as Id};
 ghost use Rattle.std.specs.Prelude.{◌≡◌, ◌++◌, ℕ, Bool, true, List, Option, OnOk};
 
-use crate::pieces::ranges::{
+use crate::ranges::{
     handler_in_range, mapping_in_range, message_in_range, notice_in_range, queued_in_range,
     record_in_range,
 };
-use crate::pieces::reading::{
+use crate::reading::{
     take_handler, take_mapping, take_message, take_notice, take_received, take_record,
 };
-use crate::pieces::writing::{
+use crate::writing::{
     put_handler, put_mapping, put_notice, put_queued, put_received, put_record,
 };
 use am_model::{Awaited, Mapping, Notice, Queued};

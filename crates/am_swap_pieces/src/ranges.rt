@@ -5,7 +5,7 @@ ghost use Rattle.am_model.specs.History.{are_words_in_range, is_byte, is_eight_b
 ghost use Rattle.std.specs.List.{list_all};
 ghost use Rattle.std.specs.Prelude.{◌≡◌, ◌<◌, ◌^◌, true};
 
-use crate::pieces::part::ImagePart;
+use crate::part::ImagePart;
 use am_model::{Awaited, Mapping, Notice, Queued};
 use am_names::{Message, Serial, Tag, Words};
 use am_office_entries::HandlerKind;

@@ -1,7 +1,13 @@
 -- What the code reads, against what reading gives.
-use Rattle.std.specs.Prelude.{◌≡◌, true, is_some, Option, Some, None, Result, Ok, Err}
-use Rattle.am_swap_codec.specs.declared.pieces.fault.ImageFault.{ImageFault}
-use Rattle.am_swap_codec.specs.declared.pieces.fault.ImageFault.TheVariants as faults
+use Rattle.std.specs.Prelude.{◌≡◌, true, ℕ, is_some, List, Option, Some, None, Result, Ok, Err}
+use Rattle.am_lemmas.specs.Options.{◌>>=◌}
+use Rattle.am_swap_image.specs.Reading.{Read}
+use Rattle.am_swap_pieces.specs.declared.fault.ImageFault.{ImageFault}
+use Rattle.am_swap_pieces.specs.declared.fault.ImageFault.TheVariants as faults
+
+-- the bytes behind what is read
+abbrev pub behind : {X : Type 0} → Read X → Option (List ℕ)
+behind read = read >>= λ x. Some x.1
 
 -- what the code read, seen by view, is what reading gives
 abbrev pub Gives : {X Y : Type 0} → (X → Y) → Option X → Option Y → Type 0
