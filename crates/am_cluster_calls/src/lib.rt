@@ -5,4 +5,6 @@ mod lows;
 mod threads;
 
 pub use crate::lows::{LowMark, fewest_from, low_after, no_low};
-pub use crate::threads::{ThreadScript, all_scripts, count_event, next_call, scripts_after, tell_made};
+pub use crate::threads::{
+    ThreadScript, all_scripts, count_event, next_call, scripts_after, tell_made,
+};

@@ -27,12 +27,12 @@ mod scripted;
 mod touched;
 mod tries;
 
-use am_cluster_calls::{ThreadScript, scripts_after, tell_made};
 use crate::emissions::links_after;
 use crate::end_marks::all_shown;
 use crate::pair_marks::all_pairs;
 pub use crate::scripted::ScriptedCluster;
 use crate::scripted::{Beside, Drained, drain_in_place, plan_of};
+use am_cluster_calls::{ThreadScript, scripts_after, tell_made};
 use am_laws_runs::runs_have_short_logs;
 use am_machine::{Cluster, NoMemory};
 use am_model::EntryFault;

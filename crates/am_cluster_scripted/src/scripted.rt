@@ -20,9 +20,6 @@ ghost use Rattle.am_model_scripts.specs.Follows.{is_thread};
 ghost use Rattle.am_model_scripts.specs.Scripts.{call_left};
 ghost use Rattle.std.specs.Prelude.{◌≡◌, ◌≤◌, ◌*◌, [], IfErr, IfOk, OnOk, length, map, true};
 
-use am_cluster_calls::{
-    LowMark, ThreadScript, all_scripts, count_event, fewest_from, low_after, next_call, no_low,
-};
 use crate::emissions::{due_on, feed_entry};
 use crate::end_marks::{EndMarks, all_shown, mark_touched};
 use crate::firsts::{first_bound, first_due, first_missed, next_end, turn_falls};
@@ -31,6 +28,9 @@ use crate::looks::{has_bound, head_at, head_by, home, is_frame_held, mail_at, re
 use crate::pair_marks::{PairMarks, all_pairs, mark_pair};
 use crate::plan_index::PlanIndex;
 use crate::tries::is_last;
+use am_cluster_calls::{
+    LowMark, ThreadScript, all_scripts, count_event, fewest_from, low_after, next_call, no_low,
+};
 use am_cluster_drainer::{Drainable, EndHead, EndMail, EndTest, LeftCall, NodePair};
 use am_machine::Cluster;
 use am_model::{EntryFault, Head};

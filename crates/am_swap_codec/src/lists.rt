@@ -8,13 +8,13 @@ ghost use Rattle.am_swap_image.specs.Range.{IsInRange};
 ghost use Rattle.am_swap_image.specs.Reading.{body_at, whole_body};
 ghost use Rattle.std.specs.Prelude.{◌≡◌, ◌++◌, IfErr, IfOk, OnOk, true};
 
+use am_model::{Awaited, Mapping, Notice, Queued};
+use am_names::{EndpointId, Message, Tag};
+use am_office_entries::{HandlerKind, NoMemory};
 use am_swap_pieces::{
     ImageFault, all_in_range, head_in_range, pass_counted, pass_many, put_counted, put_each,
     put_long, put_magic, put_short, take_counted, take_long, take_magic, take_many, take_short,
 };
-use am_model::{Awaited, Mapping, Notice, Queued};
-use am_names::{EndpointId, Message, Tag};
-use am_office_entries::{HandlerKind, NoMemory};
 use std::alloc::{AllocError, Global};
 use std::marker::Model;
 

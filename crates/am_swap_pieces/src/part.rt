@@ -14,9 +14,7 @@ use crate::ranges::{
 use crate::reading::{
     take_handler, take_mapping, take_message, take_notice, take_received, take_record,
 };
-use crate::writing::{
-    put_handler, put_mapping, put_notice, put_queued, put_received, put_record,
-};
+use crate::writing::{put_handler, put_mapping, put_notice, put_queued, put_received, put_record};
 use am_model::{Awaited, Mapping, Notice, Queued};
 use am_names::{EndpointId, Message};
 use am_office_entries::HandlerKind;
