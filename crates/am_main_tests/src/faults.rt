@@ -12,25 +12,34 @@ const READ_FAULT: Ending = Ending {
     write_faults: 0,
 };
 
-/// The text has 9 parts of at most 16 bytes, and the tenth read finds its end.
+/// The text, as a test takes it: a goal over the constant itself has all of its bytes.
+fn path_text() -> &'static [u8] {
+    PATH.as_bytes()
+}
+
+/// The end where this read fails: the text has 9 parts of at most 16 bytes, and the tenth read finds its end.
+fn read_ending(fails: u32) -> Ending<'static> {
+    if fails <= 10 {
+        READ_FAULT
+    } else {
+        sound(0, PATH_REPORT)
+    }
+}
+
 #[test]
 fn each_read_fails_in_turn(rt: HostRuntime) -> Result<(), Fail> {
     for fails in 1..13u32 {
         let source = Device { most: 16, fails };
-        let wanted = if fails <= 10 {
-            READ_FAULT
-        } else {
-            sound(0, PATH_REPORT)
-        };
         let devices = (source, SOUND);
-        assert!(rt; ends_so(&rt, rt.alloc(), "step", PATH.as_bytes(), devices, wanted)?);
+        let wanted = read_ending(fails);
+        assert!(rt; ends_so(&rt, rt.alloc(), "step", path_text(), devices, wanted)?);
     }
     Ok(())
 }
 
 #[test]
 fn a_read_fails_or_a_write_fails(rt: HostRuntime) -> Result<(), Fail> {
-    for case in CASES {
+    for case in CASES.iter() {
         let devices = (case.source, case.sink);
         assert!(rt;
             ends_so(
@@ -66,7 +75,7 @@ fn each_write_fails_in_turn(rt: HostRuntime) -> Result<(), Fail> {
 #[test]
 fn each_command_meets_faults(rt: HostRuntime) -> Result<(), Fail> {
     let fails = Device { most: 16, fails: 2 };
-    for (line, text, front) in COMMANDS {
+    for (line, text, front) in COMMANDS.iter() {
         let bytes = text.as_bytes();
         let cut = Ending {
             status: 5,

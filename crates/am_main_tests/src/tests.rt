@@ -44,10 +44,10 @@ fn each_text_is_answered(rt: HostRuntime) -> Result<(), Fail> {
 
 #[test]
 fn words_are_counted(rt: HostRuntime) -> Result<(), Fail> {
-    for (line, text, status, printed) in COUNTS {
+    for (line, text, status, printed) in COUNTS.iter() {
         let answer = answer_of(&rt, rt.alloc(), line, text, SLOW, SLOW)?;
-        assert!(rt; answer.status == status);
-        assert!(rt; answer.sink.bytes() == printed);
+        assert!(rt; answer.status == *status);
+        assert!(rt; answer.sink.bytes() == *printed);
     }
     Ok(())
 }
@@ -171,7 +171,7 @@ fn makes_a_run_of_a_number(rt: HostRuntime) -> Result<(), Fail> {
 fn other_words_are_usage(rt: HostRuntime) -> Result<(), Fail> {
     let usage =
         "usage: am2 step | am2 run | am2 make N | am2 segments | am2 session | am2 count W U | am2 check step | am2 check run\n";
-    for line in NO_FORMS {
+    for line in NO_FORMS.iter() {
         let devices = (SLOW, SLOW);
         assert!(rt; ends_so(&rt, rt.alloc(), line, b"", devices, sound(2, usage))?);
     }
@@ -182,8 +182,8 @@ fn other_words_are_usage(rt: HostRuntime) -> Result<(), Fail> {
 fn forms_of_words(rt: HostRuntime) -> Result<(), Fail> {
     let none: Vec<String> = Vec::new(rt.alloc());
     assert!(rt; command_of(&none).is_none());
-    for (line, command) in FORMS {
-        assert!(rt; command_of(&words_of(rt.alloc(), line)?) == Some(command));
+    for (line, command) in FORMS.iter() {
+        assert!(rt; command_of(&words_of(rt.alloc(), line)?) == Some(*command));
     }
     Ok(())
 }
