@@ -1,7 +1,8 @@
-//! Tests of texts: scenarios, segments, sessions and counted words that are read, reports that are printed and checked.
+//! Tests of texts: scenarios, segments, sessions and counted words that are read, reports that are printed and checked, commands answered.
 #![tactic(auto)]
 
 mod checked;
+mod commands;
 mod jobs;
 mod printed;
 mod scenarios;

@@ -1,5 +1,5 @@
 //! Texts with the status and what is printed of each.
-use crate::tables::{PATH, PATH_REPORT, Row};
+use crate::commands::tables::{PATH, PATH_REPORT, Row};
 use am_main::Command;
 
 /// A step script whose one step is not enabled.

@@ -1,7 +1,7 @@
 //! Sources and sinks that fail.
 
-use crate::answers::{answer_of, ends_so, sound};
-use crate::tables::{CASES, COMMANDS, Device, Ending, PATH, PATH_REPORT, SOUND};
+use crate::commands::answers::{answer_of, ends_so, sound};
+use crate::commands::tables::{CASES, COMMANDS, Device, Ending, PATH, PATH_REPORT, SOUND};
 use std::test::Fail;
 
 /// A read failed.

@@ -1,5 +1,4 @@
 //! Tests of the top call: each command over texts, and over sources and sinks that fail.
-#![tactic(auto)]
 
 #[cfg(test)]
 mod answers;

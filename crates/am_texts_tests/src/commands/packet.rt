@@ -1,6 +1,6 @@
 //! Step scripts on the packet network, each with its status and what is printed. They stand in parts, so that what
 //! several of them begin with is said once.
-use crate::tables::Row;
+use crate::commands::tables::Row;
 
 /// Two nodes.
 const THREE_TRIES: &str = "am2 1\n\

@@ -1,6 +1,6 @@
 //! Step scripts on the direct network, each with its status and what is printed. They stand in parts, so that what
 //! several of them begin with is said once.
-use crate::tables::{PATH, PATH_REPORT, Row};
+use crate::commands::tables::{PATH, PATH_REPORT, Row};
 
 /// One endpoint.
 const ONE: &str = "am2 1\n\

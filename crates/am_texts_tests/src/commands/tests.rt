@@ -1,11 +1,11 @@
 //! Each command over texts, and over sources and sinks that fail.
 
-use crate::answers::{answer_of, ends_so, joined, sound, words_of};
-use crate::direct::DIRECT;
-use crate::packet::PACKET;
-use crate::scripts::{self, RUNS};
-use crate::tables::{Device, PATH, PATH_REPORT, Row, SLOW, SOUND};
-use crate::texts::{CHECKS, CONDITIONS, COUNTS, FAULTS, FORMS, IDLE, NO_FORMS};
+use crate::commands::answers::{answer_of, ends_so, joined, sound, words_of};
+use crate::commands::direct::DIRECT;
+use crate::commands::packet::PACKET;
+use crate::commands::scripts::{self, RUNS};
+use crate::commands::tables::{Device, PATH, PATH_REPORT, Row, SLOW, SOUND};
+use crate::commands::texts::{CHECKS, CONDITIONS, COUNTS, FAULTS, FORMS, IDLE, NO_FORMS};
 use am_main::{StepFault, command_of, step_text};
 use am_office_entries::Condition;
 use std::alloc::{AllocError, Global};

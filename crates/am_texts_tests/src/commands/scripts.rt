@@ -1,6 +1,6 @@
 //! Scenarios with the scripts of threads, and what is printed of their runs. They stand in parts, so that what several
 //! of them begin with is said once.
-use crate::tables::Row;
+use crate::commands::tables::Row;
 
 pub const VERSION: &str = "am2 1\n";
 

@@ -1,6 +1,6 @@
 //! What a command answers over a source and a sink, and whether that is sound.
 
-use crate::tables::{Device, Ending};
+use crate::commands::tables::{Device, Ending};
 use am_io::{MemorySink, MemorySource, Sink, Source};
 use am_main::am2;
 use std::alloc::{AllocError, Global};
