@@ -1,83 +1,55 @@
 -- What a round asks for, call by call.
-use Rattle.std.specs.Prelude.{OnOk, Result, Ok, Err, not}
-use Rattle.std.proofs.Common.{◌≡◌, ℕ, zero, suc, ◌+◌, ◌<◌, ◌≤◌, Bool, true, false, ◌&&◌, ◌||◌, List, [], ◌∷◌, ◌++◌, refl, sym, ap, ◌∙◌, subst, ⊎_elim, length, arith}
-use Rattle.std.proofs.Common.{append_assoc, filter_map, get_or, take}
-use Rattle.std.specs.List.{Contains, cons_option, list_all}
-use Rattle.std.proofs.lemmas.Bool.{and_from, and_parts, cases_lt}
-use Rattle.std.proofs.lemmas.List.{append-nil, take_more}
-use Rattle.std.proofs.lemmas.List.Elements.{Contains-append_cases, Contains-append_left, Contains-append_right, Contains-push, filter_map-append}
+use Rattle.std.proofs.Common.{◌≡◌, ℕ, zero, suc, ◌+◌, ◌<◌, ◌≤◌, Bool, true, false, List, [], ◌∷◌, ◌++◌, refl, sym, ap, ◌∙◌, subst, ⊎_elim, length, arith}
+use Rattle.std.specs.List.{Contains, list_all}
+use Rattle.std.proofs.lemmas.Bool.{cases_lt}
+use Rattle.std.proofs.lemmas.List.{append-nil}
+use Rattle.std.proofs.lemmas.List.Elements.{Contains-append_cases, Contains-append_left, Contains-append_right, Contains-push}
 use Rattle.am_names.specs.declared.EndpointId.{EndpointId}
 use Rattle.am_names.specs.declared.NodeId.{NodeId}
 use Rattle.am_names.specs.declared.Tag.{Tag}
 use Rattle.am_names.specs.declared.Words.{Words}
-use Rattle.am_names.specs.Names.{same_end}
 use Rattle.am_office_entries.specs.declared.Call.TheVariants as Calls
 use Rattle.am_office_entries.specs.declared.HandlerKind.TheVariants.{Echo}
-use Rattle.am_scenario_plan.specs.declared.plan.PlanLine.{PlanLine}
 use Rattle.am_scenario_types.specs.declared.parts.ScriptCall.{ScriptCall}
 use Rattle.am_scenario_types.specs.Lists.{ScenarioLists}
-use Rattle.am_library.specs.Drafts.{made, started, with_call, with_end, with_plan, with_setting, with_thread}
-use Rattle.am_library.specs.declared.draft.DraftFault.{DraftFault}
+use Rattle.am_library.specs.Drafts.{made, started, with_calls, with_end, with_setting, with_thread}
 use Rattle.am_library.specs.declared.draft.Setting.TheVariants as Set
-use Rattle.am_library.specs.Ends.{words_asked, words_in}
-use Rattle.am_library.specs.Laws.{leads, leaves_echoing}
+use Rattle.am_library.specs.Ends.{words_asked}
+use Rattle.am_library.specs.Laws.{ScriptsGrow, leads, leaves_echoing}
 use Rattle.am_example_calls.specs.declared.answers.Answer.{Answer}
 use Rattle.am_example_calls.specs.declared.answers.Answer.TheVariants.{Heard, Unheard, NeverRan}
 use Rattle.am_example_calls.specs.Answers.{answer_at, is_heard}
 use Rattle.am_example_calls.specs.Calls.{call_at}
-use Rattle.am_example_calls.specs.Rounds.{Asks, AsksFor, IsSetUp, Serves, open_call, planned, server}
+use Rattle.am_example_calls.specs.Rounds.{Asks, AsksFor, IsSetUp, Serves, open_call, server}
 
--- ---- one call more
+abbrev pub client : EndpointId
+client = record { 0 = 1 }
 
-one_more : (p : ScriptCall → Bool) (calls : List ScriptCall) (c : ScriptCall) → list_all p calls ≡ true → p c ≡ true → list_all p (calls ++ c ∷ []) ≡ true
-one_more p [] c all good = and_from (p c) true good refl
-one_more p (d ∷ calls) c all good =
-    let parts = and_parts (p d) (list_all p calls) all in and_from (p d) (list_all p (calls ++ c ∷ [])) parts.0 (one_more p calls c parts.1 good)
+-- ---- some calls more
 
-asks_call : (s : ScenarioLists) (c : ScriptCall) → leaves_echoing server c ≡ true → leads server c ≡ true →
-    Asks (cons_option (words_in c.call) []) s (with_call s c)
-asks_call s c echo lead = record {
-  asked = filter_map-append (λ (made' : ScriptCall). words_in made'.call) s.script (c ∷ []);
-  serves = λ (serves : Serves s).
-      record {
-        echoes = one_more (leaves_echoing server) s.script c serves.echoes echo;
-        leads = one_more (leads server) s.script c serves.leads lead;
-      };
-  plan = refl;
-}
-
-asks_then : (v w : List Words) (a b c : ScenarioLists) → Asks v a b → Asks w b c → Asks (v ++ w) a c
-asks_then v w a b c first second = record {
-  asked = second.asked ∙ ap (λ (l : List Words). l ++ w) first.asked ∙ append_assoc (words_asked a.script) v w;
-  serves = λ (serves : Serves a). second.serves (first.serves serves);
-  plan = second.plan ∙ first.plan;
-}
-
-asks_as : (w : List Words) (s t : ScenarioLists) (c : ScriptCall) → t ≡ with_call s c → Asks w s (with_call s c) → Asks w s t
-asks_as w s t c is asks = subst (λ (u : ScenarioLists). Asks w s u) (sym is) asks
-
-or_true : (b : Bool) → (b || true) ≡ true
-or_true true = refl
-or_true false = refl
+-- calls that leave the server as it is ask for their words too
+asks_calls : ScriptsGrow → (s t : ScenarioLists) (calls : List ScriptCall) → list_all (leaves_echoing server) calls ≡ true →
+    list_all (leads server) calls ≡ true → t ≡ with_calls s calls → Asks (words_asked calls) s t
+asks_calls grow s t calls echo lead is =
+    subst (Asks (words_asked calls) s) (sym is)
+    (record {
+      asked = (grow s calls).asked;
+      serves = λ (serves : Serves s).
+          record {
+            echoes = (grow s calls).echoes server serves.echoes echo;
+            leads = (grow s calls).leads' server serves.leads lead;
+          };
+      plan = refl;
+    })
 
 -- the client's request, the two polls of the server and the client's own
-pub asks_four : (call : Words) (client : EndpointId) (s a b c t : ScenarioLists) → a ≡ with_call s (made 1 client (Calls.Request 0 1 call)) →
-    b ≡ with_call a (made 0 server Calls.Poll) → c ≡ with_call b (made 0 server Calls.Poll) → t ≡ with_call c (made 1 client Calls.Poll) →
+pub asks_four : ScriptsGrow → (call : Words) (s t : ScenarioLists) (a b c d : ScriptCall) → t ≡ with_calls s (a ∷ b ∷ c ∷ d ∷ []) →
+    a ≡ made 1 client (Calls.Request 0 1 call) → b ≡ made 0 server Calls.Poll → c ≡ made 0 server Calls.Poll → d ≡ made 1 client Calls.Poll →
     Asks (call ∷ []) s t
-asks_four call client s a b c t request first second last =
-    asks_then (call ∷ []) [] s c t
-    (asks_then (call ∷ []) [] s b c
-    (asks_then (call ∷ []) [] s a b
-    (asks_as (call ∷ []) s a (made 1 client (Calls.Request 0 1 call)) request (asks_call s (made 1 client (Calls.Request 0 1 call)) (or_true (not (same_end server client))) refl))
-    (asks_as [] a b (made 0 server Calls.Poll) first (asks_call a (made 0 server Calls.Poll) refl refl)))
-    (asks_as [] b c (made 0 server Calls.Poll) second (asks_call b (made 0 server Calls.Poll) refl refl)))
-    (asks_as [] c t (made 1 client Calls.Poll) last (asks_call c (made 1 client Calls.Poll) (or_true (not (same_end server client))) refl))
-
-pub asks_ok : (call : Words) (client : EndpointId) (s a b c t : ScenarioLists) (r : Result (Unit {0}) DraftFault) →
-    a ≡ with_call s (made 1 client (Calls.Request 0 1 call)) → b ≡ with_call a (made 0 server Calls.Poll) → c ≡ with_call b (made 0 server Calls.Poll) →
-    OnOk r (t ≡ with_call c (made 1 client Calls.Poll)) → OnOk r (Asks (call ∷ []) s t)
-asks_ok call client s a b c t (Ok done) request first second last = asks_four call client s a b c t request first second last
-asks_ok call client s a b c t (Err fault) request first second last = tt
+asks_four grow call s t a b c d is first second third last =
+    asks_calls grow s t
+    (made 1 client (Calls.Request 0 1 call) ∷ made 0 server Calls.Poll ∷ made 0 server Calls.Poll ∷ made 1 client Calls.Poll ∷ []) refl refl
+    (is ∙ (λ i. with_calls s (first i ∷ second i ∷ third i ∷ last i ∷ [])))
 
 -- nothing more
 pub asks_none_more : (s : ScenarioLists) → Asks [] s s
@@ -85,42 +57,30 @@ asks_none_more s = record { asked = sym (append-nil (words_asked s.script)); ser
 
 -- ---- the set-up
 
-keeps_set_up : (s t : ScenarioLists) → Asks [] s t → IsSetUp s → IsSetUp t
-keeps_set_up s t asks is = record {
-  serves = asks.serves is.serves;
-  asked = asks.asked ∙ ap (λ (l : List Words). l ++ []) is.asked;
-  plan = asks.plan ∙ is.plan;
-}
-
--- an endpoint or a thread more
-same_script : (s t : ScenarioLists) → t.script ≡ s.script → t.plan ≡ s.plan → IsSetUp s → IsSetUp t
-same_script s t script plan is = record {
-  serves = record {
-    echoes = ap (list_all (leaves_echoing server)) script ∙ is.serves.echoes;
-    leads = ap (list_all (leads server)) script ∙ is.serves.leads;
-  };
-  asked = ap words_asked script ∙ is.asked;
-  plan = plan ∙ is.plan;
-}
-
-begins : IsSetUp (started 2)
-begins = record { serves = record { echoes = refl; leads = refl }; asked = refl; plan = refl }
-
-pub is_set_up : (tries turns : ℕ) (one two : NodeId) (first second : Tag) (client : EndpointId) (s r a b c d e f t : ScenarioLists) → s ≡ started 2 →
-    r ≡ with_setting s (Set.Tries tries) → a ≡ with_setting r (Set.Turns turns) → b ≡ with_end a one first → c ≡ with_end b two second → d ≡ with_thread c one → e ≡ with_thread d two →
-    f ≡ with_call e (made 0 server (Calls.SetHandler 1 (Echo 1))) → t ≡ with_call f (made 1 client (Calls.Map 0 server first 8)) → IsSetUp t
-is_set_up tries turns one two first second client s r a b c d e f t is_s is_r is_a is_b is_c is_d is_e is_f is_t =
-    let set : IsSetUp a = same_script r a (ap (λ (u : ScenarioLists). u.script) is_a) (ap (λ (u : ScenarioLists). u.plan) is_a)
-    (same_script s r (ap (λ (u : ScenarioLists). u.script) is_r) (ap (λ (u : ScenarioLists). u.plan) is_r) (subst IsSetUp (sym is_s) begins)) in
-    let ends : IsSetUp c = same_script b c (ap (λ (u : ScenarioLists). u.script) is_c) (ap (λ (u : ScenarioLists). u.plan) is_c)
-    (same_script a b (ap (λ (u : ScenarioLists). u.script) is_b) (ap (λ (u : ScenarioLists). u.plan) is_b) set) in
-    let threads : IsSetUp e = same_script d e (ap (λ (u : ScenarioLists). u.script) is_e) (ap (λ (u : ScenarioLists). u.plan) is_e)
-    (same_script c d (ap (λ (u : ScenarioLists). u.script) is_d) (ap (λ (u : ScenarioLists). u.plan) is_d) ends) in
-    keeps_set_up f t
-    (asks_as [] f t (made 1 client (Calls.Map 0 server first 8)) is_t
-    (asks_call f (made 1 client (Calls.Map 0 server first 8)) (or_true (not (same_end server client))) refl))
-    (keeps_set_up e f
-    (asks_as [] e f (made 0 server (Calls.SetHandler 1 (Echo 1))) is_f (asks_call e (made 0 server (Calls.SetHandler 1 (Echo 1))) refl refl)) threads)
+pub is_set_up : (tries turns : ℕ) (one two : NodeId) (first second tag : Tag) (s r a b c d e t : ScenarioLists) (x y : ScriptCall) → s ≡ started 2 →
+    r ≡ with_setting s (Set.Tries tries) → a ≡ with_setting r (Set.Turns turns) → b ≡ with_end a one first → c ≡ with_end b two second → d ≡ with_thread c one →
+    e ≡ with_thread d two → t ≡ with_calls e (x ∷ y ∷ []) → x ≡ made 0 server (Calls.SetHandler 1 (Echo 1)) →
+    y ≡ made 1 client (Calls.Map 0 server tag 8) → IsSetUp t
+is_set_up tries turns one two first second tag s r a b c d e t x y is_s is_r is_a is_b is_c is_d is_e is_t is_x is_y =
+    let set : ScriptCall = made 0 server (Calls.SetHandler 1 (Echo 1)) in
+    let map' : ScriptCall = made 1 client (Calls.Map 0 server tag 8) in
+    let script : e.script ≡ [] =
+    ap (λ (u : ScenarioLists). u.script) is_e ∙ ap (λ (u : ScenarioLists). u.script) is_d ∙ ap (λ (u : ScenarioLists). u.script) is_c
+    ∙ ap (λ (u : ScenarioLists). u.script) is_b ∙ ap (λ (u : ScenarioLists). u.script) is_a ∙ ap (λ (u : ScenarioLists). u.script) is_r
+    ∙ ap (λ (u : ScenarioLists). u.script) is_s in
+    let plan : e.plan ≡ [] =
+    ap (λ (u : ScenarioLists). u.plan) is_e ∙ ap (λ (u : ScenarioLists). u.plan) is_d ∙ ap (λ (u : ScenarioLists). u.plan) is_c
+    ∙ ap (λ (u : ScenarioLists). u.plan) is_b ∙ ap (λ (u : ScenarioLists). u.plan) is_a ∙ ap (λ (u : ScenarioLists). u.plan) is_r
+    ∙ ap (λ (u : ScenarioLists). u.plan) is_s in
+    subst IsSetUp (sym (is_t ∙ (λ i. with_calls e (is_x i ∷ is_y i ∷ []))))
+    (record {
+      serves = record {
+        echoes = ap (λ (calls : List ScriptCall). list_all (leaves_echoing server) (calls ++ set ∷ map' ∷ [])) script;
+        leads = ap (λ (calls : List ScriptCall). list_all (leads server) (calls ++ set ∷ map' ∷ [])) script;
+      };
+      asked = ap (λ (calls : List ScriptCall). words_asked (calls ++ set ∷ map' ∷ [])) script;
+      plan = plan;
+    })
 
 -- ---- call after call
 
@@ -171,19 +131,3 @@ asks_more arguments answers count s t below so_far asks =
           (subst (λ (k : ℕ). is_heard (answer_at answers k) ≡ false) (sym same) unheard))))
           (cases_lt token count));
     }
-
--- ---- the plan
-
-planned_same : (s : ScenarioLists) → s ≡ planned s []
-planned_same s = sym (ap (λ (l : List PlanLine). record s { plan = l }) (append-nil s.plan))
-
-pub planned_none : (s : ScenarioLists) (lines : List PlanLine) → s ≡ planned s (take 0 lines)
-planned_none s lines = planned_same s
-
-pub planned_more : (s a t : ScenarioLists) (lines : List PlanLine) (i : ℕ) (d : PlanLine) → i < length lines → a ≡ planned s (take i lines) →
-    t ≡ with_plan a (get_or lines i d) → t ≡ planned s (take (i + 1) lines)
-planned_more s a t lines i d below so_far now =
-    now
-    ∙ ap (λ (u : ScenarioLists). with_plan u (get_or lines i d)) so_far
-    ∙ ap (λ (l : List PlanLine). record s { plan = l })
-    (append_assoc s.plan (take i lines) (get_or lines i d ∷ []) ∙ ap (λ (l : List PlanLine). s.plan ++ l) (sym (take_more lines i d below)))

@@ -6,6 +6,7 @@ use Rattle.am_names.specs.declared.Words.{Words}
 use Rattle.am_office_entries.specs.declared.Entry.{Entry}
 use Rattle.am_scenario_plan.specs.declared.plan.PlanLine.{PlanLine}
 use Rattle.am_scenario_types.specs.Lists.{ScenarioLists}
+use Rattle.am_library.specs.Drafts.{with_plans}
 use Rattle.am_library.specs.Ends.{words_asked}
 use Rattle.am_library.specs.Laws.{Echoes, LeadsTo}
 use Rattle.am_library.specs.Runs.{IsRun}
@@ -42,10 +43,6 @@ open_call call (Heard words) = []
 open_call call Unheard = call ∷ []
 open_call call NeverRan = call ∷ []
 
--- with these lines in its plan, too
-abbrev pub planned : ScenarioLists → List PlanLine → ScenarioLists
-planned s lines = record s { plan = s.plan ++ lines }
-
 -- nothing is planned, nothing but calls is asked for, and of the first so many each that has no answer
 pub record AsksFor (arguments : List ℕ) (answers : List Answer) (count : ℕ) (s : ScenarioLists) : Type 0 where
   pub serves : Serves s
@@ -57,7 +54,7 @@ pub record AsksFor (arguments : List ℕ) (answers : List Answer) (count : ℕ) 
 pub record IsRoundOf (arguments : List ℕ) (answers : List Answer) (plan : List PlanLine) (s : ScenarioLists) : Type 0 where
   pub draft : ScenarioLists
   pub asks : AsksFor arguments answers (length arguments) draft
-  pub planned' : s ≡ planned draft plan
+  pub planned' : s ≡ with_plans draft plan
 
 -- a run of the scenario was made, and what ran at the server was noted
 pub record HasNoted (s : ScenarioLists) (old new : List Answer) : Type 0 where

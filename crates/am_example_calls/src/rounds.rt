@@ -2,21 +2,17 @@
 
 ghost use Rattle.std.specs.Prelude.{◌≡◌, ◌∷◌, [], IfOk, OnOk, length, replicate};
 ghost use Rattle.std.specs.Thread.{IsSync};
-ghost use Rattle.am_scenario_types.specs.Lawful.{IsLawful};
-ghost use Rattle.am_scenario_types.specs.declared.parts.Network.TheVariants.{Packet};
+ghost use Rattle.am_library.specs.Drafts.{started};
 ghost use Rattle.am_example_calls.specs.declared.answers.Answer.TheVariants.{NeverRan};
-ghost use Rattle.am_example_calls.specs.Calls.{AreAnswered, call_of};
-ghost use Rattle.am_example_calls.specs.Rounds.{Asks, AsksFor, IsRoundOf, IsSetUp, HasNoted, open_call, planned};
+ghost use Rattle.am_example_calls.specs.Calls.{AreAnswered};
+ghost use Rattle.am_example_calls.specs.Rounds.{Asks, AsksFor, HasNoted, IsRoundOf, IsSetUp, open_call};
 
 use crate::answers::{Answer, hear};
-use am_library::laws::{
-    all_run_where_they_lead, each_asked_has_its_end, each_reply_has_its_end, echoes_are_words,
-    what_ran_was_asked_for,
-};
-use am_library::{Account, Draft, DraftFault, RoundFault, Runner, Setting, runs_at};
+use am_library::calls::{handler, map, poll, request, two_words};
+use am_library::{Account, Draft, DraftFault, RoundFault, Runner, Setting, laws, runs_at};
 use am_names::{EndpointId, NoMemory, NodeId, Tag, Words};
 use am_office_entries::HandlerKind;
-use am_scenario_types::{PlanLine, Scenario};
+use am_scenario_types::PlanLine;
 use std::alloc::Global;
 use std::thread::Threads;
 
@@ -25,40 +21,34 @@ const SERVER: EndpointId = EndpointId(0);
 const CLIENT: EndpointId = EndpointId(1);
 
 // Thread 0 on node 0 sets up the server, which echoes; thread 1 on node 1 the client, whose index 0 leads there.
-fn set_up(alloc: Global) -> Result<Draft, DraftFault>
-    ensures { IfOk result IsSetUp }
+fn set_up(draft: &mut Draft) -> Result<(), DraftFault>
+    ensures { draft.old ≡ started 2 → OnOk result (IsSetUp draft.new) }
 {
-    let mut draft = Draft::new(alloc, 2)?;
     draft.set(Setting::Tries(2))?;
     draft.set(Setting::Turns(1_000))?;
-    let _server = draft.endpoint(NodeId(0), Tag(100))?;
-    let _client = draft.endpoint(NodeId(1), Tag(101))?;
-    let _serving = draft.thread(NodeId(0))?;
-    let _asking = draft.thread(NodeId(1))?;
-    draft.handler(0, SERVER, 1, HandlerKind::Echo(1))?;
-    draft.map(1, CLIENT, 0, SERVER, Tag(100), 8)?;
-    Ok(draft)
+    draft.endpoint(NodeId(0), Tag(100))?;
+    draft.endpoint(NodeId(1), Tag(101))?;
+    draft.thread(NodeId(0))?;
+    draft.thread(NodeId(1))?;
+    draft.calls(&[
+        handler(0, SERVER, 1, HandlerKind::Echo(1)),
+        map(1, CLIENT, 0, SERVER, Tag(100), 8),
+    ])?;
+    Ok(())
 }
 
 // The client asks and polls, and the server polls twice.
 fn ask(draft: &mut Draft, call: Words) -> Result<(), DraftFault>
     ensures { OnOk result (Asks (call ∷ []) draft.old draft.new) }
 {
-    draft.request(1, CLIENT, 0, 1, call)?;
-    draft.poll(0, SERVER)?;
-    draft.poll(0, SERVER)?;
-    draft.poll(1, CLIENT)
-}
-
-fn call_of(token: usize, argument: u64) -> Words
-    ensures { result ≡ call_of token argument }
-{
-    Words {
-        a: token as u64,
-        b: argument,
-        c: 0,
-        d: 0,
-    }
+    laws::scripts_grow();
+    draft.calls(&[
+        request(1, CLIENT, 0, 1, call),
+        poll(0, SERVER),
+        poll(0, SERVER),
+        poll(1, CLIENT),
+    ])?;
+    Ok(())
 }
 
 // It asks for a call only where that has no answer yet.
@@ -79,36 +69,30 @@ fn ask_all(draft: &mut Draft, arguments: &[u64], answers: &[Answer]) -> Result<(
     ensures { OnOk result (AsksFor arguments.now answers.now (length arguments.now) draft.new) }
 {
     for token in 0..arguments.len() {
-        ask_open(draft, call_of(token, arguments[token]), answers[token])?;
-    }
-    Ok(())
-}
-
-fn put_plan(draft: &mut Draft, plan: &[PlanLine]) -> Result<(), DraftFault>
-    ensures { OnOk result (draft.new ≡ planned draft.old plan.now) }
-{
-    for line in plan {
-        draft.plan(*line)?;
+        ask_open(
+            draft,
+            two_words(token as u64, arguments[token]),
+            answers[token],
+        )?;
     }
     Ok(())
 }
 
 // The scenario of a round.
-fn scenario(
-    alloc: Global,
+fn draw_up(
+    draft: &mut Draft,
     arguments: &[u64],
     answers: &[Answer],
     plan: &[PlanLine],
-) -> Result<Scenario, DraftFault>
-    requires { length answers.now ≡ length arguments.now }
-    ensures of_round { IfOk result (IsRoundOf arguments.now answers.now plan.now) }
-    ensures lawful { IfOk result IsLawful }
-    ensures packet { IfOk result (λ scenario. scenario.network ≡ Packet) }
+) -> Result<(), DraftFault>
+    requires new { draft.old ≡ started 2 }
+    requires as_many { length answers.now ≡ length arguments.now }
+    ensures { OnOk result (IsRoundOf arguments.now answers.now plan.now draft.new) }
 {
-    let mut draft = set_up(alloc)?;
-    ask_all(&mut draft, arguments, answers)?;
-    put_plan(&mut draft, plan)?;
-    Ok(draft.finish())
+    set_up(draft)?;
+    ask_all(draft, arguments, answers)?;
+    draft.plans(plan)?;
+    Ok(())
 }
 
 // Runs a round, and notes what ran at the server.
@@ -116,15 +100,13 @@ fn run_round<R: Runner, T: Threads + Sync>(
     runner: &R,
     rt: &T,
     alloc: Global,
-    scenario: &Scenario,
+    draft: Draft,
     answers: &mut [Answer],
 ) -> Result<(), RoundFault>
     requires shared { IsSync T.row }
-    requires lawful { IsLawful scenario.now }
-    requires packet { scenario.now.network ≡ Packet }
-    ensures { OnOk result (HasNoted scenario.now answers.old answers.new) }
+    ensures { OnOk result (HasNoted draft answers.old answers.new) }
 {
-    let finished = runner.run(rt, alloc, scenario)?;
+    let finished = draft.run(runner, rt, alloc)?;
     let journal = finished.journal.logged(alloc)?;
     let runs = runs_at(alloc, &journal, SERVER)?;
     let account = Account::of(alloc, &journal)?;
@@ -150,15 +132,16 @@ pub fn answers_to<R: Runner, T: Threads + Sync>(
     requires { IsSync T.row }
     ensures { IfOk result (λ answers. AreAnswered arguments.now plans.now answers.items) }
 {
-    all_run_where_they_lead();
-    each_asked_has_its_end();
-    each_reply_has_its_end();
-    echoes_are_words();
-    what_ran_was_asked_for();
+    laws::all_run_where_they_lead();
+    laws::each_asked_has_its_end();
+    laws::each_reply_has_its_end();
+    laws::echoes_are_words();
+    laws::what_ran_was_asked_for();
     let mut answers = none_ran(alloc, arguments.len())?;
     for plan in plans {
-        let scenario = scenario(alloc, arguments, &answers, plan)?;
-        run_round(runner, rt, alloc, &scenario, &mut answers)?;
+        let mut draft = Draft::new(alloc, 2)?;
+        draw_up(&mut draft, arguments, &answers, plan)?;
+        run_round(runner, rt, alloc, draft, &mut answers)?;
     }
     Ok(answers)
 }

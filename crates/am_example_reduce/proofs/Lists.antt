@@ -1,11 +1,8 @@
 -- What a filter keeps.
-use Rattle.std.proofs.Common.{◌≡◌, ◌⊎◌, ⊎_elim, Bool, true, false, List, [], ◌∷◌, refl, sym, ap, ◌∙◌, subst, if◌then◌else◌}
+use Rattle.std.proofs.Common.{◌≡◌, ◌⊎◌, ⊎_elim, Bool, true, false, List, [], ◌∷◌, refl, subst, if◌then◌else◌}
 use Rattle.std.specs.Prelude.{filter}
 use Rattle.std.specs.List.{Contains}
-use Rattle.std.proofs.lemmas.List.Elements.{Contains-append_cases, Contains-append_left, Contains-append_right, Contains-push}
-
-head_in : {X : Type 0} (x : X) (xs : List X) → Contains (x ∷ xs) x
-head_in x xs = Contains-append_left (x ∷ []) xs x (Contains-push [] x)
+use Rattle.std.proofs.lemmas.List.Elements.{Contains-append_cases, Contains-append_left, Contains-append_right}
 
 pub filter_in : {X : Type 0} (p : X → Bool) (xs : List X) (x : X) → Contains (filter p xs) x → Contains xs x
 filter_in p [] x has = has
@@ -20,13 +17,3 @@ filter_in {X} p (y ∷ xs) x has = by_test (filter_in p xs x) (p y) refl
     by_test inside false is =
         Contains-append_right (y ∷ []) xs x
         (inside (subst (λ (b : Bool). Contains (if b then y ∷ filter p xs else filter p xs) x) is has))
-
-pub filter_all : {X : Type 0} (p : X → Bool) (xs : List X) → ((x : X) → Contains xs x → p x ≡ true) → filter p xs ≡ xs
-filter_all p [] all = refl
-filter_all {X} p (x ∷ xs) all =
-    ap (λ (b : Bool). if b then x ∷ filter p xs else filter p xs) (all x (head_in x xs))
-    ∙ ap (λ (ys : List X). x ∷ ys) (filter_all p xs (λ (y : X) (has : Contains xs y). all y (Contains-append_right (x ∷ []) xs y has)))
-
-pub filter_none : {X : Type 0} (p : X → Bool) (xs : List X) → ((x : X) → p x ≡ false) → filter p xs ≡ []
-filter_none p [] none = refl
-filter_none {X} p (x ∷ xs) none = ap (λ (b : Bool). if b then x ∷ filter p xs else filter p xs) (none x) ∙ filter_none p xs none

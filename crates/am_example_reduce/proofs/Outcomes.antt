@@ -2,9 +2,8 @@
 use Rattle.std.proofs.Common.{eqb-true, ◌≡◌, ◌≢◌, ◌⊎◌, inl, inr, ⊎_elim, ℕ, ◌+◌, ◌%◌, ◌^◌, ◌<◌, Bool, true, false, ◌&&◌, ◌||◌, ◌==◌, not, List, [], ◌∷◌, ◌++◌, Option, Some, None, refl, sym, ap, ◌∙◌, subst, arith}
 use Rattle.std.proofs.Common.{All, append-nil, length, map, slice_get, get_or}
 use Rattle.std.specs.Prelude.{IfSome, filter, sum_by}
-use Rattle.std.specs.List.{Contains, list_all, list_any, range_with_len}
+use Rattle.std.specs.List.{Contains, range_with_len}
 use Rattle.std.specs.Option.{option_map}
-use Rattle.std.proofs.lemmas.Bool.{and_parts}
 use Rattle.std.proofs.lemmas.Grind.{flat_map-append}
 use Rattle.std.proofs.lemmas.List.{length_push}
 use Rattle.std.proofs.lemmas.List.Concat.{flat_map-cons}
@@ -13,72 +12,20 @@ use Rattle.std.proofs.lemmas.Option.{get_or_from_slice_get, slice_get_within}
 use Rattle.am_lemmas.proofs.Numbered.{lines_all}
 use Rattle.am_names.specs.declared.EndpointId.{EndpointId}
 use Rattle.am_names.specs.declared.Message.{Message}
-use Rattle.am_names.specs.declared.Serial.{Serial}
 use Rattle.am_names.specs.declared.Words.{Words}
-use Rattle.am_names.specs.Names.{same_end}
-use Rattle.am_model.proofs.Names.{same_end-is}
 use Rattle.am_office_entries.specs.declared.Entry.{Entry}
-use Rattle.am_office_entries.specs.declared.endings.Fate.{Fate}
-use Rattle.am_office_entries.specs.declared.endings.Fate.TheVariants as Fates
-use Rattle.am_office_entries.specs.Fates.{fate}
 use Rattle.am_scenario_plan.specs.declared.plan.LinkFault.TheVariants.{Repeat}
 use Rattle.am_scenario_plan.specs.declared.plan.PlanLine.{PlanLine}
-use Rattle.am_scenario_types.specs.declared.parts.ScriptCall.{ScriptCall}
 use Rattle.am_scenario_types.specs.Lists.{ScenarioLists}
 use Rattle.am_library.specs.Ends.{is_back, is_lost, words_asked, words_fated, words_of, words_refused, words_run}
-use Rattle.am_library.specs.Laws.{EachRequestHasItsEnd, RunsWhereHandlersAre, SumsAreOfRuns, WhatRanWasAskedFor, first_of, first_word, is_handler, sets_handler}
+use Rattle.am_library.specs.Laws.{AllRunWhereTheyLead, EachRequestHasItsEnd, NothingIsUnknown, SumsAreOfRuns, WhatRanWasAskedFor, first_of, first_word}
 use Rattle.am_library.specs.Runs.{IsRun}
-use Rattle.am_library.specs.Views.{is_to, requests_run, requests_sent, runs_at, sum_at}
+use Rattle.am_library.specs.Views.{is_to, requests_run, runs_at, sum_at}
 use Rattle.am_library.proofs.Weights.{sum_map}
 use Rattle.am_example_reduce.specs.declared.reduce.Summed.{Summed}
-use Rattle.am_example_reduce.specs.Rounds.{Asks, SendsSum, end_of, root, serves_root}
+use Rattle.am_example_reduce.specs.Rounds.{Asks, SendsSum, end_of, root}
 use Rattle.am_example_reduce.specs.Sums.{AreNotes, IsAfter, IsOutcome, Leave, Run, Sums, SumsAllBut, heard_by, left_by, unknown_by, weight_at_root, weight_summed}
-use Rattle.am_example_reduce.proofs.Lists.{filter_all, filter_in, filter_none}
-
--- ---- where only the root serves, all that ran, ran there
-
-serving_is_root : (e d : EndpointId) (handler : Bool) → (same_end e d && handler) ≡ true → (not handler || same_end root d) ≡ true → same_end root e ≡ true
-serving_is_root e d handler sets serves =
-    let parts = and_parts (same_end e d) handler sets in
-    let there : same_end root d ≡ true = by_handler handler parts.1 serves in
-    subst (λ (f : EndpointId). same_end root f ≡ true) (sym (same_end-is e d parts.0)) there
-  where
-    by_handler : (b : Bool) → b ≡ true → (not b || same_end root d) ≡ true → same_end root d ≡ true
-    by_handler true is serves' = serves'
-    by_handler false is serves' = absurd (cc)
-
-root_serves : (e : EndpointId) (calls : List ScriptCall) → list_any (sets_handler e) calls ≡ true → list_all serves_root calls ≡ true →
-    same_end root e ≡ true
-root_serves e [] some all = absurd (cc)
-root_serves e (c ∷ calls) some all =
-    let parts = and_parts (serves_root c) (list_all serves_root calls) all in
-    by_test (root_serves e calls) parts.0 parts.1 (sets_handler e c) refl some
-  where
-    by_test : (list_any (sets_handler e) calls ≡ true → list_all serves_root calls ≡ true → same_end root e ≡ true) → serves_root c ≡ true →
-        list_all serves_root calls ≡ true → (b : Bool) → sets_handler e c ≡ b → (b || list_any (sets_handler e) calls) ≡ true → same_end root e ≡ true
-    by_test later here rest true is some' = serving_is_root e c.endpoint (is_handler c.call) is here
-    by_test later here rest false is some' = later some' rest
-
-all_at_root : (s : ScenarioLists) (journal : List Entry) → IsRun s journal → RunsWhereHandlersAre → list_all serves_root s.script ≡ true →
-    runs_at journal root ≡ requests_run journal
-all_at_root s journal run served alone =
-    filter_all (is_to root) (requests_run journal)
-    (λ (m : Message) (has : Contains (requests_run journal) m). root_serves m.dest s.script (served s journal m run has) alone)
-
--- ---- where the plan only repeats, nothing is unknown
-
-not_lost : (f : Option Fate) → f ≢ Some Fates.Unknown → is_lost f ≡ false
-not_lost (Some Fates.Unknown) known = absurd (known refl)
-not_lost (Some Fates.Ran) known = refl
-not_lost (Some (Fates.Returned cause)) known = refl
-not_lost (Some Fates.UnknownButRan) known = refl
-not_lost (Some Fates.Pending) known = refl
-not_lost None known = refl
-
-none_lost : (journal : List Entry) → ((serial : Serial) → fate journal serial ≢ Some Fates.Unknown) → words_fated is_lost journal ≡ []
-none_lost journal known =
-    ap (map words_of) (filter_none (λ (m : Message). is_lost (fate journal m.serial)) (requests_sent journal)
-    (λ (m : Message). not_lost (fate journal m.serial) (known m.serial)))
+use Rattle.am_example_reduce.proofs.Lists.{filter_in}
 
 -- ---- a round more
 
@@ -102,9 +49,9 @@ unknown_more {plan} runs run =
     (flat_map-cons (λ (r : Run plan). words_fated is_lost r.journal) run [] ∙ append-nil (words_fated is_lost run.journal))
 
 round_more : (plan : List PlanLine) (numbers : List Words) (before now : Summed) (s : ScenarioLists) (journal : List Entry) → EachRequestHasItsEnd →
-    RunsWhereHandlersAre → SumsAreOfRuns → IsRun s journal → Asks plan before.left.items s → IsOutcome before journal now →
+    AllRunWhereTheyLead → SumsAreOfRuns → NothingIsUnknown → IsRun s journal → Asks plan before.left.items s → IsOutcome before journal now →
     (so_far : Sums plan numbers before) → (sums : Sums plan numbers now) × (length sums.runs ≡ length so_far.runs + 1)
-round_more plan numbers before now s journal ends served sums is_run asks outcome so_far = (
+round_more plan numbers before now s journal ends lead sums unknown is_run asks outcome so_far = (
   record {
     runs = so_far.runs ++ here ∷ [];
     left' = subst (λ (l : List Words). Leave numbers (so_far.runs ++ here ∷ []) l) (sym outcome.left')
@@ -132,8 +79,8 @@ round_more plan numbers before now s journal ends served sums is_run asks outcom
         ∙ ap (λ (n : ℕ). n % 2 ^ 64) (sym (sum_by_push (λ (run : Run plan). sum_at run.journal root) so_far.runs here));
     known = λ (repeats : All (λ (line : PlanLine). line.fault ≡ Repeat) plan).
         outcome.unknown'
-        ∙ (λ i. so_far.known repeats i ++ none_lost journal (λ (serial : Serial). (is_run.obeys.complete (subst (λ (lines : List PlanLine). All (λ (line : PlanLine). line.fault ≡ Repeat) lines)
-        (sym asks.plan') repeats) serial).0) i);
+        ∙ (λ i. so_far.known repeats i ++ unknown s journal is_run (subst (λ (lines : List PlanLine). All (λ (line : PlanLine). line.fault ≡ Repeat) lines)
+        (sym asks.plan') repeats) i);
   },
   length_push so_far.runs here,
 )
@@ -142,13 +89,13 @@ round_more plan numbers before now s journal ends served sums is_run asks outcom
     here = record { scenario = s; journal = journal; planned = asks.plan'; is_run = is_run }
 
     there : runs_at journal root ≡ requests_run journal
-    there = all_at_root s journal is_run served asks.alone
+    there = lead s journal root is_run asks.lead
 
 pub after_more : (plan : List PlanLine) (numbers : List Words) (rounds : ℕ) (before now : Summed) (s : ScenarioLists) (journal : List Entry) →
-    EachRequestHasItsEnd → RunsWhereHandlersAre → SumsAreOfRuns → IsRun s journal → Asks plan before.left.items s → IsOutcome before journal now →
-    before.left.items ≢ [] → IsAfter plan numbers rounds before → IsAfter plan numbers (rounds + 1) now
-after_more plan numbers rounds before now s journal ends served sums is_run asks outcome some so_far =
-    let next = round_more plan numbers before now s journal ends served sums is_run asks outcome so_far.0 in
+    EachRequestHasItsEnd → AllRunWhereTheyLead → SumsAreOfRuns → NothingIsUnknown → IsRun s journal → Asks plan before.left.items s →
+    IsOutcome before journal now → before.left.items ≢ [] → IsAfter plan numbers rounds before → IsAfter plan numbers (rounds + 1) now
+after_more plan numbers rounds before now s journal ends lead sums unknown is_run asks outcome some so_far =
+    let next = round_more plan numbers before now s journal ends lead sums unknown is_run asks outcome so_far.0 in
     let many : length so_far.0.runs ≡ rounds =
     ⊎_elim (λ (is : length so_far.0.runs ≡ rounds). is) (λ (none : before.left.items ≡ []). absurd (some none)) so_far.1 in
     (next.0, inl (next.1 ∙ ap (λ (n : ℕ). n + 1) many))

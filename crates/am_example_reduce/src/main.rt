@@ -3,12 +3,12 @@
 #![tactic(auto)]
 
 mod reduce;
-mod rounds;
 
 use crate::reduce::{Reduced, reduce};
 use am_library::BySeed;
+use am_library::lines::{late, lost, repeated};
 use am_names::{NodeId, Words};
-use am_scenario_types::{LinkFault, PlanLine};
+use am_scenario_types::PlanLine;
 use anyhow::Result;
 use std::alloc::{AllocError, Global};
 use std::env;
@@ -19,24 +19,9 @@ fn plan_by(alloc: Global, seed: u64, nodes: u8) -> Result<Vec<PlanLine>, AllocEr
     for node in 1..nodes {
         let number = 1 + (seed.wrapping_add(u64::from(node)) % 3) as u32;
         let (from, to) = (NodeId(node), NodeId(0));
-        plan.push(PlanLine {
-            from,
-            to,
-            number,
-            fault: LinkFault::Lose,
-        })?;
-        plan.push(PlanLine {
-            from,
-            to,
-            number: number + 1,
-            fault: LinkFault::Late(1),
-        })?;
-        plan.push(PlanLine {
-            from: to,
-            to: from,
-            number,
-            fault: LinkFault::Repeat,
-        })?;
+        plan.push(lost(from, to, number))?;
+        plan.push(late(from, to, number + 1, 1))?;
+        plan.push(repeated(to, from, number))?;
     }
     Ok(plan)
 }

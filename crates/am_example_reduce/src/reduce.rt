@@ -1,20 +1,28 @@
-//! Sums over nodes, in rounds: what was refused or came back never ran, and is sent again.
+//! Sums over nodes, in rounds: what was refused or came back never ran, and is sent again. Node 0 has the root, endpoint 0, and node n the
+//! endpoint n + 1 and the thread n.
 
-ghost use Rattle.std.specs.Prelude.{◌≡◌, ◌≢◌, ℕ, ◌+◌, [], IfOk, List, map, slice_get};
+ghost use Rattle.std.specs.Prelude.{◌≡◌, ◌∷◌, ◌++◌, [], IfOk, List, OnOk, map};
 ghost use Rattle.std.specs.List.{range_with_len};
-ghost use Rattle.std.specs.Option.{option_map};
 ghost use Rattle.std.specs.Thread.{IsSync};
 ghost use Rattle.am_names.specs.declared.Words.{Words};
-ghost use Rattle.am_library.specs.Laws.{first_word};
-ghost use Rattle.am_example_reduce.specs.Sums.{AreNotes, IsAfter, IsOutcome, IsReduced, heard_by};
+ghost use Rattle.am_scenario_plan.specs.declared.plan.PlanLine.{PlanLine};
+ghost use Rattle.am_example_reduce.specs.Rounds.{Asks, SendsSum};
+ghost use Rattle.am_example_reduce.specs.Sums.{IsOutcome, IsReduced, heard_by};
 
-use crate::rounds::{ROOT, ask, tell};
-use am_library::{Account, Ending, RoundFault, Runner, laws, runs_at, sum_at};
-use am_names::{EndpointId, Message, NoMemory, Words};
-use am_office_entries::logged::LoggedJournal;
+use am_library::calls::{handler, map, poll, request, two_words};
+use am_library::{
+    Account, Draft, DraftFault, Ending, Finished, RoundFault, Runner, Setting, first_word_at, laws,
+    sum_at,
+};
+use am_names::{EndpointId, NoMemory, NodeId, Tag, Words};
+use am_office_entries::HandlerKind;
 use am_scenario_types::PlanLine;
 use std::alloc::Global;
 use std::thread::Threads;
+
+const ROOT: EndpointId = EndpointId(0);
+
+const TAG: Tag = Tag(1);
 
 /// What was summed, and what was not. Of each number the first word is the number, the second its node.
 #[derive(Drop)]
@@ -35,77 +43,93 @@ pub enum Reduced {
     Open(Summed),
 }
 
-// What is summed after a round.
-fn after(alloc: Global, before: &Summed, journal: &LoggedJournal) -> Result<Summed, NoMemory>
-    ensures { IfOk result (IsOutcome before.now journal.now) }
+// The nodes with their endpoints and threads, under a plan.
+fn planned(alloc: Global, nodes: u8, plan: &[PlanLine]) -> Result<Draft, DraftFault>
+    ensures { IfOk result (λ draft. (draft.script ≡ []) × (draft.plan ≡ plan.now)) }
 {
-    let account = Account::of(alloc, journal)?;
-    let mut left = account.words_ended(alloc, journal, Ending::Refused)?;
-    left.extend_from_slice(&account.words_ended(alloc, journal, Ending::Returned)?)?;
-    let mut unknown = Vec::from_slice(alloc, &before.unknown)?;
-    unknown.extend_from_slice(&account.words_ended(alloc, journal, Ending::Unknown)?)?;
-    let sum = before.sum.wrapping_add(sum_at(journal, ROOT));
-    Ok(Summed { sum, left, unknown })
-}
-
-// Sends what is left.
-fn send_left<R: Runner, T: Threads + Sync>(
-    rt: &T,
-    runner: &R,
-    alloc: Global,
-    nodes: u8,
-    plan: &[PlanLine],
-    before: &Summed,
-) -> Result<Summed, RoundFault>
-    requires shared { IsSync T.row }
-    ensures { (numbers : List Words) (rounds : ℕ) → IsAfter plan.now numbers rounds before.now → before.now.left.items ≢ [] → IfOk result (IsAfter plan.now numbers (rounds + 1)) }
-{
-    laws::each_request_has_its_end();
-    laws::runs_where_handlers_are();
-    laws::sums_are_of_runs();
-    let scenario = ask(alloc, nodes, plan, &before.left)?;
-    let finished = runner.run(rt, alloc, &scenario)?;
-    Ok(after(alloc, before, &finished.journal.logged(alloc)?)?)
-}
-
-fn first_word(runs: &[Message]) -> Option<u64>
-    ensures { result ≡ option_map first_word (slice_get runs.now 0) }
-{
-    match runs {
-        [first, ..] => Some(first.words.a),
-        [] => None,
+    let mut draft = Draft::new(alloc, nodes)?;
+    draft.set(Setting::Turns(40))?;
+    draft.endpoint(NodeId(0), TAG)?;
+    for node in 0..nodes {
+        draft.endpoint(NodeId(node), TAG)?;
+        draft.thread(NodeId(node))?;
     }
+    draft.plans(plan)?;
+    Ok(draft)
+}
+
+// A number's node sends it to the root.
+fn send(draft: &mut Draft, words: Words) -> Result<(), DraftFault>
+    ensures { (plan : List PlanLine) (numbers : List Words) → Asks plan numbers draft.old → OnOk result (Asks plan (numbers ++ words ∷ []) draft.new) }
+{
+    laws::scripts_grow();
+    let node = match u8::try_from(words.b) {
+        Ok(node) if node < 16 => node,
+        _ => return Err(DraftFault::NoNode),
+    };
+    let end = EndpointId(node + 1);
+    draft.calls(&[
+        map(node, end, 0, ROOT, TAG, 1),
+        request(node, end, 0, 1, words),
+        poll(0, ROOT),
+        poll(node, end),
+    ])?;
+    Ok(())
+}
+
+// Each number is sent to the root, which adds it.
+fn ask(draft: &mut Draft, numbers: &[Words]) -> Result<(), DraftFault>
+    ensures { (plan : List PlanLine) → draft.old.script ≡ [] → draft.old.plan ≡ plan → OnOk result (Asks plan numbers.now draft.new) }
+{
+    draft.handler(0, ROOT, 1, HandlerKind::Add(1))?;
+    for words in numbers {
+        send(draft, *words)?;
+    }
+    Ok(())
+}
+
+// The root sends the sum to each node.
+fn tell(draft: &mut Draft, nodes: u8, sum: u64) -> Result<(), DraftFault>
+    ensures { (plan : List PlanLine) → draft.old.script ≡ [] → draft.old.plan ≡ plan → OnOk result (SendsSum plan sum draft.new) }
+{
+    laws::scripts_grow();
+    for node in 0..nodes {
+        let end = EndpointId(node + 1);
+        draft.calls(&[
+            handler(node, end, 1, HandlerKind::Note),
+            map(0, ROOT, node, end, TAG, 1),
+            request(0, ROOT, node, 1, two_words(sum, 0)),
+            poll(node, end),
+        ])?;
+    }
+    Ok(())
+}
+
+// What is summed after a round.
+fn after(alloc: Global, before: &Summed, finished: &Finished) -> Result<Summed, NoMemory>
+    ensures { IfOk result (IsOutcome before.now finished.now.journal) }
+{
+    let journal = finished.journal.logged(alloc)?;
+    let account = Account::of(alloc, &journal)?;
+    let mut left = account.words_ended(alloc, &journal, Ending::Refused)?;
+    left.extend_from_slice(&account.words_ended(alloc, &journal, Ending::Returned)?)?;
+    let mut unknown = Vec::from_slice(alloc, &before.unknown)?;
+    unknown.extend_from_slice(&account.words_ended(alloc, &journal, Ending::Unknown)?)?;
+    let sum = before.sum.wrapping_add(sum_at(&journal, ROOT));
+    Ok(Summed { sum, left, unknown })
 }
 
 // What each node heard.
 #[tactic(auto, using(am_lemmas::proofs::Numbered::lines_more))]
-fn heard(alloc: Global, journal: &LoggedJournal, nodes: u8) -> Result<Vec<Option<u64>>, NoMemory>
-    ensures { IfOk result (λ notes. notes.items ≡ map (heard_by journal.now) (range_with_len 0 nodes)) }
+fn heard(alloc: Global, nodes: u8, finished: &Finished) -> Result<Vec<Option<u64>>, NoMemory>
+    ensures { IfOk result (λ notes. notes.items ≡ map (heard_by finished.now.journal) (range_with_len 0 nodes)) }
 {
+    let journal = finished.journal.logged(alloc)?;
     let mut notes = Vec::new(alloc);
     for node in 0..nodes {
-        let runs = runs_at(alloc, journal, EndpointId(node + 1))?;
-        notes.push(first_word(&runs))?;
+        notes.push(first_word_at(alloc, &journal, EndpointId(node + 1))?)?;
     }
     Ok(notes)
-}
-
-// Sends the sum to each node.
-fn notes<R: Runner, T: Threads + Sync>(
-    rt: &T,
-    runner: &R,
-    alloc: Global,
-    nodes: u8,
-    plan: &[PlanLine],
-    sum: u64,
-) -> Result<Vec<Option<u64>>, RoundFault>
-    requires shared { IsSync T.row }
-    ensures { IfOk result (λ notes. AreNotes plan.now nodes sum notes.items) }
-{
-    laws::what_ran_was_asked_for();
-    let scenario = tell(alloc, nodes, plan, sum)?;
-    let finished = runner.run(rt, alloc, &scenario)?;
-    Ok(heard(alloc, &finished.journal.logged(alloc)?, nodes)?)
 }
 
 /// The sum of the numbers of 1 to 16 nodes at one endpoint, and what each node hears of it, under any plan and by any runner.
@@ -120,6 +144,11 @@ pub fn reduce<R: Runner, T: Threads + Sync>(
     requires shared { IsSync T.row }
     ensures { IfOk result (IsReduced plan.now nodes numbers.now) }
 {
+    laws::each_request_has_its_end();
+    laws::all_run_where_they_lead();
+    laws::sums_are_of_runs();
+    laws::nothing_is_unknown();
+    laws::what_ran_was_asked_for();
     let mut summed = Summed {
         sum: 0,
         left: Vec::from_slice(alloc, numbers)?,
@@ -127,13 +156,19 @@ pub fn reduce<R: Runner, T: Threads + Sync>(
     };
     for _round in 0..4u8 {
         if !summed.left.is_empty() {
-            summed = send_left(rt, runner, alloc, nodes, plan, &summed)?;
+            let mut draft = planned(alloc, nodes, plan)?;
+            ask(&mut draft, &summed.left)?;
+            let finished = draft.run(runner, rt, alloc)?;
+            summed = after(alloc, &summed, &finished)?;
         }
     }
     if !summed.left.is_empty() || !summed.unknown.is_empty() {
         return Ok(Reduced::Open(summed));
     }
     let sum = summed.sum;
-    let notes = notes(rt, runner, alloc, nodes, plan, sum)?;
+    let mut draft = planned(alloc, nodes, plan)?;
+    tell(&mut draft, nodes, sum)?;
+    let finished = draft.run(runner, rt, alloc)?;
+    let notes = heard(alloc, nodes, &finished)?;
     Ok(Reduced::Whole { sum, notes })
 }

@@ -1,15 +1,14 @@
 -- The sum of an endpoint that adds is that of the first words of the requests that ran there.
-use Rattle.std.specs.Prelude.{MatchOption, not, is_none, filter, nat_lt, replicate, slice_set, sum_by}
+use Rattle.std.specs.Prelude.{MatchOption, not, is_none, nat_lt, replicate, slice_set, sum_by}
 use Rattle.std.proofs.Common.{◌≡◌, ℕ, ◌+◌, ◌%◌, ◌^◌, ◌<◌, ◌≤◌, Bool, true, false, ◌&&◌, ◌||◌, List, [], ◌∷◌, ◌++◌, Option, Some, None, refl, sym, ap, ◌∙◌}
 use Rattle.std.proofs.Common.{subst}
 use Rattle.std.proofs.Common.{◌⊎◌, inl, inr, ⊎_elim, filter_map, get_or, length, ltb-true, ltb-false, if◌then◌else◌, arith}
 use Rattle.std.specs.List.{Contains, find, list_all, list_any}
-use Rattle.std.proofs.lemmas.Bool.{and_from, and_parts, cases_lt}
+use Rattle.std.proofs.lemmas.Bool.{and_parts, cases_lt}
 use Rattle.std.proofs.lemmas.List.{get_or-set_same, get_or-set_other, set_past, get_or-replicate, get_or_past, length-replicate}
 use Rattle.std.proofs.lemmas.List.Sums.{get_or-le-sum_by, sum_by-cons}
 use Rattle.am_names.specs.declared.EndpointId.{EndpointId}
 use Rattle.am_names.specs.declared.Message.{Message}
-use Rattle.am_names.specs.declared.Words.{Words}
 use Rattle.am_names.specs.Names.{is_reply, is_request, same_end}
 use Rattle.am_office_entries.specs.declared.Actor.{Actor}
 use Rattle.am_office_entries.specs.declared.Actor.TheVariants.{Thread, Outside}
@@ -22,13 +21,13 @@ use Rattle.am_office_entries.specs.declared.Event.TheVariants as Events
 use Rattle.am_office_entries.specs.declared.Outcome.{Outcome}
 use Rattle.am_office_entries.specs.declared.Outcome.TheVariants as Out
 use Rattle.am_office_entries.specs.declared.Entry.{Entry}
-use Rattle.am_office_entries.specs.Entries.{accepted_in, accepted_of, ends_touched, put_in, put_of, run_in, run_of, touches}
+use Rattle.am_office_entries.specs.Entries.{accepted_in, accepted_of, ends_touched, put_in, run_in, run_of, touches}
 use Rattle.am_model.specs.declared.Mapping.{Mapping}
 use Rattle.am_model.specs.Calls.{outcome_of_call, sum_after}
 use Rattle.am_model.specs.Changes.{called, changed, kind_run}
 use Rattle.am_model.specs.Endpoint.{State, entry_at}
-use Rattle.am_model.specs.Layout.{AllAre, EndSetting, Layout, has_id, opening_by}
-use Rattle.am_model.specs.History.{EachAfter, IsHistory, MayFollow, outcome_of, state_of}
+use Rattle.am_model.specs.Layout.{EndSetting, Layout, has_id, opening_by}
+use Rattle.am_model.specs.History.{EachAfter, IsHistory, MayFollow, state_of}
 use Rattle.am_model.specs.PostOffice.{IsAcceptedAsAsked, IsAcceptedBy, IsAt, IsFirstRun, IsPutAndRunFirst, PostOffice, RunsOwnHandler, SendsOne, mapping_of}
 use Rattle.am_model.proofs.Each.{each_push, over_each, state_of_push}
 use Rattle.am_model.proofs.Names.{same_end-is, same_end-refl}
@@ -46,12 +45,12 @@ use Rattle.am_model_scripts.specs.Scripts.{KeepsScripts, call_made}
 use Rattle.am_model_scripts.specs.Follows.{KeepsToEvents, is_of_run}
 use Rattle.am_library.specs.declared.sums.Summing.{Summing}
 use Rattle.am_library.specs.Laws.{Adds, IsSumOfRuns, first_word, is_adding, leaves_adding}
-use Rattle.am_library.specs.Views.{is_to, requests_run, runs_at, sum_at, summing}
+use Rattle.am_library.specs.Views.{is_to, requests_run, runs_at}
 use Rattle.am_library.proofs.Called.{calls_are_script, made}
 use Rattle.am_library.proofs.Distinct.{has_at}
 use Rattle.am_library.proofs.Ended.{request_as}
-use Rattle.am_library.proofs.Summed.{is_shown, shown}
-use Rattle.am_library.proofs.Weights.{of, only, sum_filter, sum_one, sum_push, sum_same}
+use Rattle.am_library.proofs.Summed.{is_shown}
+use Rattle.am_library.proofs.Weights.{of, only, sum_filter, sum_one, sum_push}
 
 -- ---- the calls leave it adding
 

@@ -2,7 +2,7 @@
 use Rattle.std.proofs.Common.{◌≡◌, ℕ, ◌+◌, Bool, true, false, ◌||◌, Option, Some, None, List, [], ◌∷◌, refl, sym, ap, ◌∙◌, subst, filter_map, arith, eqb-true}
 use Rattle.std.proofs.Common.{if◌then◌else◌}
 use Rattle.std.specs.Prelude.{◌==◌, filter, find, sum_by}
-use Rattle.std.specs.List.{All, cons_option, list_all, list_any}
+use Rattle.std.specs.List.{All, list_all, list_any}
 use Rattle.std.specs.Option.{option_map}
 use Rattle.std.proofs.lemmas.Bool.{and_parts}
 use Rattle.std.proofs.lemmas.List.Elements.{All-head, All-tail}
@@ -16,7 +16,7 @@ use Rattle.am_scenario_types.specs.declared.parts.ScriptCall.{ScriptCall}
 use Rattle.am_scenario_types.specs.declared.parts.ThreadLine.{ThreadLine}
 use Rattle.am_scenario_types.specs.Lawful.{IsLawful, IsLawfulScriptCall, least_credits, thread_node}
 use Rattle.am_scenario_types.specs.Lists.{ScenarioLists}
-use Rattle.am_model_scripts.specs.Scripts.{KeepsScripts, call_made, calls_of, is_of_thread, script_of}
+use Rattle.am_model_scripts.specs.Scripts.{KeepsScripts, call_made, is_of_thread}
 use Rattle.am_model_scripts.specs.Follows.{KeepsToEvents, is_of_run}
 use Rattle.am_library.proofs.Weights.{only, of, sum_both, sum_filter, sum_one, sum_same}
 

@@ -9,7 +9,7 @@ use Rattle.std.proofs.lemmas.List.{length_push}
 use Rattle.std.proofs.lemmas.List.Elements.{All-nil, All-push, All-weaker}
 use Rattle.std.proofs.lemmas.List.Folds.{find-append}
 use Rattle.std.proofs.lemmas.List.Sums.{sum_by_push}
-use Rattle.am_lemmas.proofs.Bools.{and_from_three, or_first_fails}
+use Rattle.am_lemmas.proofs.Bools.{and_from_three}
 use Rattle.am_lemmas.proofs.Lists.{none_passes, all_pairs_none, all_pairs_grow}
 use Rattle.am_lemmas.proofs.Options.{option_map-option_or}
 use Rattle.am_names.specs.declared.EndpointId.{EndpointId}
@@ -30,7 +30,7 @@ use Rattle.am_scenario_types.specs.declared.parts.FaultLine.{FaultLine}
 use Rattle.am_scenario_types.specs.declared.parts.ThreadLine.{ThreadLine}
 use Rattle.am_scenario_types.specs.declared.parts.ScriptCall.{ScriptCall}
 use Rattle.am_scenario_types.specs.declared.parts.StepLine.{StepLine}
-use Rattle.am_scenario_types.specs.Lawful.{HasLawfulSettings, IsDeclared, IsLawful, IsLawfulBundle, IsLawfulCall, IsLawfulEnd, IsLawfulEvent, IsLawfulFault}
+use Rattle.am_scenario_types.specs.Lawful.{HasLawfulSettings, IsDeclared, IsLawfulBundle, IsLawfulCall, IsLawfulEnd, IsLawfulEvent, IsLawfulFault}
 use Rattle.am_scenario_types.specs.Lawful.{IsLawfulFaultLine, IsLawfulKind}
 use Rattle.am_scenario_types.specs.Lawful.{IsLawfulPlanLine, IsLawfulScriptCall, IsLawfulThread, IsOn, IsSamePageCall, IsSamePlace, IsWithin, least_credits}
 use Rattle.am_scenario_types.specs.Lawful.{node_of, thread_node}
@@ -41,7 +41,7 @@ use Rattle.am_library.specs.declared.draft.Setting.{Setting}
 use Rattle.am_library.specs.declared.draft.Setting.TheVariants as Set
 use Rattle.am_library.specs.Drafts.{IsDraft, IsTyped, are_together, call_fault, end_fault, end_line, ends_on, is_good_call, is_good_fault, is_good_kind}
 use Rattle.am_library.specs.Drafts.{is_good_setting, is_same_packet}
-use Rattle.am_library.specs.Drafts.{is_within, names_nothing, plan_fault, setting_fault, start_fault, started, thread_fault, thread_line, threads_on}
+use Rattle.am_library.specs.Drafts.{is_within, names_nothing, plan_fault, started, thread_fault, thread_line, threads_on}
 use Rattle.am_library.specs.Drafts.{with_call, with_end}
 use Rattle.am_library.specs.Drafts.{with_plan, with_setting, with_thread}
 

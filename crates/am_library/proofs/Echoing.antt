@@ -1,5 +1,5 @@
 -- The replies of an endpoint that echoes have the words of their requests.
-use Rattle.std.specs.Prelude.{MatchOption, not, is_none, filter, nat_le, replicate}
+use Rattle.std.specs.Prelude.{MatchOption, not, is_none, nat_le}
 use Rattle.std.proofs.Common.{◌≡◌, ℕ, Bool, true, false, ◌&&◌, ◌||◌, List, [], ◌∷◌, ◌++◌, Option, Some, None, refl, sym, ap, ◌∙◌, subst, ⊎_elim, filter_map}
 use Rattle.std.proofs.Common.{if◌then◌else◌, arith}
 use Rattle.std.specs.List.{Contains, cons_option, find, list_any}
@@ -22,20 +22,19 @@ use Rattle.am_office_entries.specs.declared.Entry.{Entry}
 use Rattle.am_office_entries.specs.Entries.{accepted_in, accepted_of, ends_touched, is_serial, put_in, run_in, run_of, touches}
 use Rattle.am_model.specs.declared.Mapping.{Mapping}
 use Rattle.am_model.specs.declared.Notice.{Notice}
-use Rattle.am_model.specs.Calls.{answer, outcome_of_call, poll, poll_received, poll_requests}
+use Rattle.am_model.specs.Calls.{answer, poll, poll_received, poll_requests}
 use Rattle.am_model.specs.Changes.{called, changed}
 use Rattle.am_model.specs.Endpoint.{State, entry_at, replies_held}
-use Rattle.am_model.specs.Layout.{EndSetting, Layout, has_id, opening_by}
+use Rattle.am_model.specs.Layout.{EndSetting, has_id, opening_by}
 use Rattle.am_model.specs.History.{IsHistory, MayFollow, outcome_of, state_of}
 use Rattle.am_model.specs.PostOffice.{IsAcceptedBy, IsAt, IsFirstRun, PostOffice, SendsOne, is_about, mapping_of}
 use Rattle.am_model.proofs.Each.{each_push, over_each, state_of_push}
-use Rattle.am_model.proofs.Names.{same_end-is, same_end-refl, same_serial-is}
+use Rattle.am_model.proofs.Names.{same_end-is, same_serial-is}
 use Rattle.am_model.proofs.Own.{Own, own_kept}
 use Rattle.am_model.proofs.Received.{one_touched}
 use Rattle.am_laws.proofs.Alls.{all_map}
 use Rattle.am_laws.proofs.Delivered.{delivers, put_facts}
 use Rattle.am_laws.proofs.Held.{ReceivedAre, held_kept, polled_run}
-use Rattle.am_scenario_types.specs.declared.parts.ScriptCall.{ScriptCall}
 use Rattle.am_scenario_types.specs.Lawful.{IsLawful}
 use Rattle.am_scenario_types.specs.Lists.{ScenarioLists}
 use Rattle.am_model_scripts.specs.Layout.{layout_of}

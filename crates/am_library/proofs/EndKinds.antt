@@ -1,11 +1,10 @@
 -- Each request that was asked for, and each reply, has its end.
-use Rattle.std.proofs.Common.{◌≡◌, ◌≢◌, ◌⊎◌, inl, inr, ℕ, zero, suc, ◌+◌, ◌<◌, ◌≤◌, Bool, true, false, Option, Some, None, List, [], ◌∷◌, ◌++◌, refl, sym, ap, ◌∙◌, subst}
+use Rattle.std.proofs.Common.{◌≡◌, ◌≢◌, ◌⊎◌, inl, inr, ℕ, zero, suc, ◌+◌, ◌<◌, ◌≤◌, Bool, true, false, Option, Some, None, List, [], ◌∷◌, refl, sym, ap, ◌∙◌, subst}
 use Rattle.std.proofs.Common.{⊎_elim, filter_map, if◌then◌else◌, map, arith}
-use Rattle.std.specs.Prelude.{filter, find, sum_by}
+use Rattle.std.specs.Prelude.{find}
 use Rattle.std.specs.List.{Contains}
 use Rattle.std.proofs.lemmas.Bool.{cases_lt}
 use Rattle.std.proofs.lemmas.List.Elements.{Contains-append_cases, Contains-append_left, Contains-append_right, Contains-push}
-use Rattle.am_names.specs.Rules.{is_transient}
 use Rattle.am_names.specs.declared.Cause.{Cause}
 use Rattle.am_names.specs.declared.Message.{Message}
 use Rattle.am_names.specs.declared.Serial.{Serial}
@@ -19,7 +18,7 @@ use Rattle.am_office_entries.specs.Fates.{causes_of, fate, fate_by, is_accepted,
 use Rattle.am_model.specs.Layout.{Layout}
 use Rattle.am_model.specs.PostOffice.{PostOffice, WasAccepted, is_about}
 use Rattle.am_library.specs.Ends.{is_back, is_lost, words_of}
-use Rattle.am_library.specs.Views.{reply_to, requests_sent}
+use Rattle.am_library.specs.Views.{reply_to}
 use Rattle.am_library.proofs.Distinct.{accepted_once, all_accepted, find_in, found_in, has_place, only_one, unique}
 
 -- ---- a message that did not run

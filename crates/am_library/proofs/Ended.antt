@@ -1,5 +1,5 @@
 -- Every request of a script has its end.
-use Rattle.std.proofs.Common.{◌≡◌, ◌≢◌, ℕ, ◌+◌, ◌≤◌, Bool, true, false, ◌&&◌, Option, Some, None, List, [], ◌∷◌, ◌++◌, refl, sym, ap, ◌∙◌, subst, map}
+use Rattle.std.proofs.Common.{◌≡◌, ◌≢◌, ℕ, ◌+◌, ◌≤◌, Bool, true, false, Option, Some, None, List, [], ◌∷◌, ◌++◌, refl, sym, ap, ◌∙◌, subst, map}
 use Rattle.std.proofs.Common.{filter_map}
 use Rattle.std.proofs.Common.{if◌then◌else◌, arith}
 use Rattle.std.specs.Prelude.{MatchOption, filter, sum_by}
@@ -7,16 +7,14 @@ use Rattle.std.specs.List.{Contains, cons_option, list_all, list_any}
 use Rattle.std.proofs.lemmas.Bool.{and_parts}
 use Rattle.std.proofs.lemmas.List.Elements.{Contains-append_left, Contains-append_right, Contains-push}
 use Rattle.std.proofs.lemmas.List.Sums.{sum_by-cons}
-use Rattle.am_lemmas.proofs.Lists.{count_by-none}
 use Rattle.am_names.specs.declared.Cause.{Cause}
 use Rattle.am_names.specs.declared.EndpointId.{EndpointId}
 use Rattle.am_names.specs.declared.Message.{Message}
 use Rattle.am_names.specs.declared.MsgKind.TheVariants as Kind
 use Rattle.am_names.specs.declared.Serial.{Serial}
 use Rattle.am_names.specs.declared.Words.{Words}
-use Rattle.am_names.specs.Names.{has_serial, is_reply, is_request, same_serial}
+use Rattle.am_names.specs.Names.{has_serial, is_request, same_serial}
 use Rattle.am_office_entries.specs.declared.Actor.TheVariants.{Thread, Outside}
-use Rattle.am_office_entries.specs.declared.Call.{Call}
 use Rattle.am_office_entries.specs.declared.Call.TheVariants as Calls
 use Rattle.am_office_entries.specs.declared.Event.{Event}
 use Rattle.am_office_entries.specs.declared.Event.TheVariants as Events
@@ -41,10 +39,9 @@ use Rattle.am_scenario_types.specs.Lists.{ScenarioLists}
 use Rattle.am_model_scripts.specs.Layout.{layout_of}
 use Rattle.am_model_scripts.specs.Scripts.{KeepsScripts, call_made}
 use Rattle.am_model_scripts.specs.Follows.{KeepsToEvents, is_of_run}
-use Rattle.am_library.specs.Ends.{AddUp, is_back, is_lost, refused_in, words_asked, words_fated, words_in, words_of, words_refused, words_run}
-use Rattle.am_library.specs.Views.{requests_run, requests_sent}
+use Rattle.am_library.specs.Ends.{AddUp, is_back, is_lost, refused_in, words_in, words_of, words_refused}
 use Rattle.am_library.proofs.Called.{calls_are_script, made}
-use Rattle.am_library.proofs.Distinct.{Once, accepted_once, all_accepted, at_most, count_role, find_in, found_in, has_place, runs_once, unique}
+use Rattle.am_library.proofs.Distinct.{accepted_once, all_accepted, at_most, find_in, found_in, has_place, runs_once, unique}
 use Rattle.am_library.proofs.Weights.{of, only, sum_filter, sum_listed, sum_map, sum_push, sum_same}
 
 -- ---- what was accepted has one of three ends

@@ -18,7 +18,7 @@ use Rattle.am_library.specs.declared.account.Account.{Account}
 use Rattle.am_library.specs.declared.endings.Ending.{Ending}
 use Rattle.am_library.specs.declared.endings.Ending.TheVariants as End
 use Rattle.am_library.specs.Accounts.{IsAccountOf}
-use Rattle.am_library.specs.Ends.{ended_in, is_back, is_lost, words_ended, words_fated, words_if, words_of}
+use Rattle.am_library.specs.Ends.{ended_in, is_back, is_lost, words_ended, words_if, words_of}
 use Rattle.am_library.specs.Views.{requests_sent}
 
 -- the accepted requests whose fate passes, entry by entry

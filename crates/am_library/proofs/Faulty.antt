@@ -1,5 +1,5 @@
 -- The first condition that holds.
-use Rattle.std.proofs.Common.{◌≡◌, Bool, true, false, Option, Some, None, List, [], ◌∷◌, refl, ap, ◌∙◌, sym, if◌then◌else◌}
+use Rattle.std.proofs.Common.{◌≡◌, Bool, true, false, Option, Some, None, List, [], ◌∷◌, refl, ap, ◌∙◌, if◌then◌else◌}
 use Rattle.std.specs.List.{find}
 use Rattle.am_model.specs.Choice.{first_holding}
 use Rattle.am_library.specs.declared.draft.DraftFault.{DraftFault}

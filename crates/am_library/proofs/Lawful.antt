@@ -1,7 +1,7 @@
 -- The laws of a library, from those of runs.
-use Rattle.std.proofs.Common.{◌≡◌, ◌≢◌, ◌⊎◌, inl, inr, ℕ, zero, suc, ◌+◌, ◌%◌, ◌^◌, ◌<◌, ◌≤◌, Bool, true, false, ◌&&◌, Option, Some, None, List, [], ◌∷◌}
+use Rattle.std.proofs.Common.{◌≡◌, ◌≢◌, ◌⊎◌, inl, inr, ℕ, ◌%◌, ◌^◌, ◌≤◌, Bool, true, false, ◌&&◌, Option, Some, None, List, [], ◌∷◌}
 use Rattle.std.proofs.Common.{refl, sym, ap, ◌∙◌, subst, ⊎_elim}
-use Rattle.std.proofs.Common.{get_or, length, map, count_by, filter_map, if◌then◌else◌, arith, eqb-true, eq-eqb}
+use Rattle.std.proofs.Common.{get_or, length, count_by, filter_map, if◌then◌else◌, arith, eqb-true, eq-eqb}
 use Rattle.std.specs.Prelude.{◌==◌, MatchOption, filter, sum_by}
 use Rattle.std.specs.List.{Contains}
 use Rattle.std.proofs.lemmas.Bool.{and_from, and_parts}
@@ -19,8 +19,8 @@ use Rattle.am_office_entries.specs.declared.endings.Fate.{Fate}
 use Rattle.am_office_entries.specs.declared.endings.Fate.TheVariants as Fates
 use Rattle.am_office_entries.specs.Entries.{accepted_of, run_of}
 use Rattle.am_office_entries.specs.Fates.{fate, fate_of_accepted, is_accepted}
-use Rattle.am_laws.specs.Fates.{HasOneFate, IsFated}
-use Rattle.am_model.specs.PostOffice.{WasAccepted, is_about, times}
+use Rattle.am_laws.specs.Fates.{IsFated}
+use Rattle.am_model.specs.PostOffice.{is_about, times}
 use Rattle.am_scenario_types.specs.Lists.{ScenarioLists}
 use Rattle.am_model_scripts.specs.Layout.{layout_of}
 use Rattle.am_laws_runs.specs.Turns.Endings.{WithholdsNothing}

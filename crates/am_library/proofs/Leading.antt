@@ -1,5 +1,5 @@
 -- Where each map of a script names one endpoint, every request goes there.
-use Rattle.std.proofs.Common.{◌≡◌, ℕ, ◌+◌, Bool, true, false, ◌&&◌, Option, Some, None, List, [], ◌∷◌, ◌++◌, refl, sym, ap, ◌∙◌, subst, filter_map}
+use Rattle.std.proofs.Common.{◌≡◌, ℕ, Bool, true, false, ◌&&◌, Option, Some, None, List, [], ◌∷◌, ◌++◌, refl, sym, ap, ◌∙◌, subst, filter_map}
 use Rattle.std.proofs.Common.{if◌then◌else◌, arith}
 use Rattle.std.specs.Prelude.{◌==◌, MatchOption, filter, sum_by, unwrap_or}
 use Rattle.std.specs.List.{Contains}
@@ -7,9 +7,7 @@ use Rattle.std.proofs.lemmas.List.Elements.{Contains-append_left, Contains-appen
 use Rattle.am_names.specs.declared.EndpointId.{EndpointId}
 use Rattle.am_names.specs.declared.Message.{Message}
 use Rattle.am_names.specs.Names.{is_request, same_end}
-use Rattle.am_office_entries.specs.declared.Actor.{Actor}
 use Rattle.am_office_entries.specs.declared.Actor.TheVariants.{Thread, Outside}
-use Rattle.am_office_entries.specs.declared.Call.{Call}
 use Rattle.am_office_entries.specs.declared.Call.TheVariants as Calls
 use Rattle.am_office_entries.specs.declared.Event.{Event}
 use Rattle.am_office_entries.specs.declared.Event.TheVariants as Events
@@ -24,7 +22,6 @@ use Rattle.am_model.specs.PostOffice.{IsAcceptedBy, PostOffice, mapping_of, mapp
 use Rattle.am_model.proofs.Each.{over_each}
 use Rattle.am_model.proofs.Names.{same_end-is, same_end-refl}
 use Rattle.am_model.proofs.Own.{last_given_push}
-use Rattle.am_scenario_types.specs.declared.parts.ScriptCall.{ScriptCall}
 use Rattle.am_scenario_types.specs.Lawful.{IsLawful}
 use Rattle.am_scenario_types.specs.Lists.{ScenarioLists}
 use Rattle.am_model_scripts.specs.Layout.{layout_of}

@@ -17,3 +17,4 @@ pub mod Leading
 pub mod Echoing
 pub mod EndKinds
 pub mod Lawful
+pub mod Growing

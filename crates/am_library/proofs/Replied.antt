@@ -1,16 +1,15 @@
 -- Each run of a request has one reply.
-use Rattle.std.proofs.Common.{◌≡◌, ℕ, ◌+◌, ◌≤◌, Bool, true, false, Option, Some, None, List, [], ◌∷◌, ◌++◌, refl, sym, ap, ◌∙◌, subst, ⊎_elim, length}
+use Rattle.std.proofs.Common.{◌≡◌, ℕ, ◌≤◌, Bool, true, false, Option, Some, None, List, [], ◌∷◌, ◌++◌, refl, sym, ap, ◌∙◌, subst, ⊎_elim, length}
 use Rattle.std.proofs.Common.{filter_map, arith}
 use Rattle.std.proofs.Common.{get_or, count_by, if◌then◌else◌}
 use Rattle.std.specs.Prelude.{MatchOption, filter, sum_by}
-use Rattle.std.specs.List.{All, Contains, cons_option}
+use Rattle.std.specs.List.{Contains, cons_option}
 use Rattle.std.proofs.lemmas.List.Elements.{All-contains, All-contains_itself, All-filter, Contains-append_cases, Contains-append_left, Contains-append_right}
 use Rattle.std.proofs.lemmas.List.Elements.{Contains-push, filter_map-append, filter_passes}
-use Rattle.std.proofs.lemmas.List.Sums.{get_or-le-sum_by, length-filter, sum_by-cons, sum_by-le-sum_by}
-use Rattle.std.proofs.lemmas.Bool.{and_from}
+use Rattle.std.proofs.lemmas.List.Sums.{get_or-le-sum_by, length-filter, sum_by-le-sum_by}
 use Rattle.am_names.specs.declared.Message.{Message}
 use Rattle.am_names.specs.declared.Serial.{Serial}
-use Rattle.am_names.specs.Names.{has_serial, is_reply, is_request, same_serial}
+use Rattle.am_names.specs.Names.{has_serial, is_request, same_serial}
 use Rattle.am_office_entries.specs.declared.Call.TheVariants as Calls
 use Rattle.am_office_entries.specs.declared.Event.{Event}
 use Rattle.am_office_entries.specs.declared.Event.TheVariants as Events

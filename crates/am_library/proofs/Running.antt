@@ -1,7 +1,6 @@
 -- What a run answers is that of a runner.
-use Rattle.std.proofs.Common.{◌≡◌, List, [], Result, Ok, Err}
+use Rattle.std.proofs.Common.{[], Result, Ok, Err}
 use Rattle.std.specs.Prelude.{IfErr, IfOk}
-use Rattle.am_office_entries.specs.declared.Entry.{Entry}
 use Rattle.am_scenario_types.specs.Lawful.{IsLawful}
 use Rattle.am_scenario_types.specs.Lists.{ScenarioLists}
 use Rattle.am_model_drain.specs.Cut.{IsDrainedWithRoom}

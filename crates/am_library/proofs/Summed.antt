@@ -1,6 +1,5 @@
 -- The sum that is read off a journal is the endpoint's.
-use Rattle.std.proofs.Common.{◌≡◌, ℕ, Bool, true, false, List, [], ◌∷◌, ◌++◌, Option, Some, None, refl, sym, ap, ◌∙◌, subst, if◌then◌else◌}
-use Rattle.std.specs.Prelude.{fold}
+use Rattle.std.proofs.Common.{◌≡◌, Bool, true, false, List, [], ◌∷◌, ◌++◌, Option, Some, None, refl, sym, ap, ◌∙◌}
 use Rattle.std.specs.List.{find, list_any}
 use Rattle.std.proofs.lemmas.List.Sums.{fold_push}
 use Rattle.am_names.specs.declared.EndpointId.{EndpointId}
@@ -20,10 +19,10 @@ use Rattle.am_model.specs.Layout.{EndSetting, Layout, has_id, opening_by}
 use Rattle.am_model.specs.History.{IsHistory, MayFollow, state_of}
 use Rattle.am_model.proofs.Books.{not_touched}
 use Rattle.am_model.proofs.Each.{over_each, state_of_push}
-use Rattle.am_model.proofs.Own.{Own, own_kept}
+use Rattle.am_model.proofs.Own.{own_kept}
 use Rattle.am_model.proofs.Received.{one_touched}
 use Rattle.am_library.specs.declared.sums.Summing.{Summing}
-use Rattle.am_library.specs.Views.{sum_at, summed, summed_by, summing, unsummed}
+use Rattle.am_library.specs.Views.{summed, summed_by, summing, unsummed}
 
 -- what an endpoint has of it
 abbrev pub shown : State → Summing

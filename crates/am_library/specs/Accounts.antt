@@ -1,5 +1,5 @@
 -- The account of a journal, by the serials of its messages.
-use Rattle.std.specs.Prelude.{◌≡◌, Bool, Option, Some, None, List, slice_get, option_map, if◌then◌else◌}
+use Rattle.std.specs.Prelude.{◌≡◌, Bool, Option, Some, None, List, slice_get, if◌then◌else◌}
 use Rattle.std.specs.BTreeMap.{BTreeMap}
 use Rattle.std.specs.BTreeMap as maps
 use Rattle.std.specs.BTreeSet.{BTreeSet}

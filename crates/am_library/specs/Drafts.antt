@@ -1,11 +1,12 @@
 -- A scenario in the making: what each call adds, and why it may be refused. Of the conditions of a call the first that holds is the cause.
-use Rattle.std.specs.Prelude.{◌≡◌, ℕ, ◌^◌, ◌<◌, ◌≤◌, ◌==◌, ◌&&◌, ◌||◌, Bool, true, false, not, nat_le, nat_lt, Option, Some, None, is_none, is_some, Result}
+use Rattle.std.specs.Prelude.{◌≡◌, ℕ, ◌^◌, ◌<◌, ◌≤◌, ◌==◌, ◌&&◌, ◌||◌, Bool, true, false, not, nat_le, Option, Some, None, is_none, Result}
 use Rattle.std.specs.Prelude.{Ok, Err}
-use Rattle.std.specs.Prelude.{List, [], ◌∷◌, ◌++◌, length, count_by}
+use Rattle.std.specs.Prelude.{List, [], ◌∷◌, ◌++◌, length, count_by, slice_get, take}
 use Rattle.std.specs.List.{All, list_any}
 use Rattle.am_names.specs.declared.EndpointId.{EndpointId}
 use Rattle.am_names.specs.declared.NodeId.{NodeId}
 use Rattle.am_names.specs.declared.Tag.{Tag}
+use Rattle.am_names.specs.declared.Words.{Words}
 use Rattle.am_office_entries.specs.declared.Call.{Call}
 use Rattle.am_office_entries.specs.declared.Call.TheVariants as Calls
 use Rattle.am_office_entries.specs.declared.HandlerKind.{HandlerKind}
@@ -14,7 +15,6 @@ use Rattle.am_model.specs.Choice.{first_holding}
 use Rattle.am_scenario_plan.specs.declared.plan.LinkFault.{LinkFault}
 use Rattle.am_scenario_plan.specs.declared.plan.LinkFault.TheVariants.{Lose, Repeat, Late}
 use Rattle.am_scenario_plan.specs.declared.plan.PlanLine.{PlanLine}
-use Rattle.am_scenario_types.specs.declared.parts.Form.TheVariants.{Run}
 use Rattle.am_scenario_types.specs.declared.parts.Network.TheVariants.{Packet}
 use Rattle.am_scenario_types.specs.declared.parts.EndLine.{EndLine}
 use Rattle.am_scenario_types.specs.declared.parts.ThreadLine.{ThreadLine}
@@ -167,6 +167,10 @@ call_fault s made' =
 abbrev pub made : ℕ → EndpointId → Call → ScriptCall
 made thread endpoint call = record { thread = thread; endpoint = endpoint; call = call }
 
+-- the words of a request that carries two numbers
+abbrev pub two_words : ℕ → ℕ → Words
+two_words a b = record { a = a; b = b; c = 0; d = 0 }
+
 abbrev pub with_call : ScenarioLists → ScriptCall → ScenarioLists
 with_call s made' = record s { script = s.script ++ made' ∷ [] }
 
@@ -195,6 +199,29 @@ planned from to number fault = record { from = from; to = to; number = number; f
 
 abbrev pub with_plan : ScenarioLists → PlanLine → ScenarioLists
 with_plan s line = record s { plan = s.plan ++ line ∷ [] }
+
+-- ---- whole scripts and whole plans
+
+abbrev pub with_calls : ScenarioLists → List ScriptCall → ScenarioLists
+with_calls s calls = record s { script = s.script ++ calls }
+
+abbrev pub with_plans : ScenarioLists → List PlanLine → ScenarioLists
+with_plans s lines = record s { plan = s.plan ++ lines }
+
+-- what comes before one item is taken, and that one is refused, or there is no memory for it
+pub record StopsAt {A : Type 0} (with' : ScenarioLists → List A → ScenarioLists) (fault_of : ScenarioLists → A → Option DraftFault) (old : ScenarioLists)
+    (items : List A) (new : ScenarioLists) (fault : DraftFault) : Type 0 where
+  pub taken : ℕ
+  pub item : A
+  pub at : slice_get items taken ≡ Some item
+  pub so_far : new ≡ with' old (take taken items)
+  pub refused : IsRefusedFor {A = Unit {0}} (Err fault) (fault_of new item)
+
+abbrev pub IsCallRefused : ScenarioLists → List ScriptCall → ScenarioLists → DraftFault → Type 0
+IsCallRefused old calls new fault = StopsAt with_calls call_fault old calls new fault
+
+abbrev pub IsLineRefused : ScenarioLists → List PlanLine → ScenarioLists → DraftFault → Type 0
+IsLineRefused old lines new fault = StopsAt with_plans plan_fault old lines new fault
 
 -- ---- what is so of every draft: it is lawful as far as it goes, and is numbered as it is declared
 

@@ -1,5 +1,5 @@
 -- What a library may rely on, in its words.
-use Rattle.std.specs.Prelude.{◌≡◌, ℕ, ◌%◌, ◌^◌, ◌≤◌, ◌⊎◌, Bool, true, false, ◌||◌, not, Some, None, List, [], ◌∷◌, count_by, filter, filter_map, length}
+use Rattle.std.specs.Prelude.{◌≡◌, ℕ, ◌%◌, ◌^◌, ◌≤◌, ◌⊎◌, Bool, true, false, ◌||◌, not, Some, None, List, [], ◌∷◌, ◌++◌, count_by, filter, filter_map, length}
 use Rattle.std.specs.Prelude.{sum_by, ◌&&◌}
 use Rattle.std.specs.List.{Contains, list_all, list_any}
 use Rattle.am_names.specs.Rules.{is_transient}
@@ -22,7 +22,8 @@ use Rattle.am_model_scripts.specs.Layout.{layout_of}
 use Rattle.am_scenario_types.specs.declared.parts.ScriptCall.{ScriptCall}
 use Rattle.am_scenario_types.specs.Lists.{ScenarioLists}
 use Rattle.am_laws_runs.specs.Turns.Endings.{WithholdsNothing}
-use Rattle.am_library.specs.Ends.{AddUp, words_asked, words_refused}
+use Rattle.am_library.specs.Drafts.{with_calls}
+use Rattle.am_library.specs.Ends.{AddUp, is_lost, words_asked, words_fated, words_refused}
 use Rattle.am_library.specs.Runs.{IsRun}
 use Rattle.am_library.specs.Views.{reply_to, requests_run, requests_sent, runs_at, sum_at}
 
@@ -188,3 +189,18 @@ SumsAreTheEndpoints =
 abbrev pub WhatRanWasAskedFor : Type 0
 WhatRanWasAskedFor =
     (s : ScenarioLists) (journal : List Entry) (m : Message) → IsRun s journal → Contains (requests_run journal) m → Contains (words_asked s.script) m.words
+
+-- where the plan withholds nothing, no request is unknown
+abbrev pub NothingIsUnknown : Type 0
+NothingIsUnknown = (s : ScenarioLists) (journal : List Entry) → IsRun s journal → WithholdsNothing s → words_fated is_lost journal ≡ []
+
+-- what calls add to a scenario: the words that they ask for; and an endpoint that adds or echoes, or to which all lead, stays so where each of
+-- the calls leaves it so
+pub record Grows (s : ScenarioLists) (calls : List ScriptCall) : Type 0 where
+  pub asked : words_asked (s.script ++ calls) ≡ words_asked s.script ++ words_asked calls
+  pub adds : (e : EndpointId) → Adds s e → list_all (leaves_adding e) calls ≡ true → Adds (with_calls s calls) e
+  pub echoes : (e : EndpointId) → Echoes s e → list_all (leaves_echoing e) calls ≡ true → Echoes (with_calls s calls) e
+  pub leads' : (e : EndpointId) → LeadsTo s e → list_all (leads e) calls ≡ true → LeadsTo (with_calls s calls) e
+
+abbrev pub ScriptsGrow : Type 0
+ScriptsGrow = (s : ScenarioLists) (calls : List ScriptCall) → Grows s calls

@@ -2,8 +2,8 @@
 //! cites it by calling it. That what an endpoint ran comes in an order that somebody gave is no law.
 
 ghost use Rattle.am_library.specs.Laws.{AllRunWhereTheyLead, EachAskedHasItsEnd, EachReplyHasItsEnd, EachRequestHasItsEnd, EachRunHasOneReply};
-ghost use Rattle.am_library.specs.Laws.{EchoesAreWords, NothingIsLost, RunsAtMostOnce, RunsWhereHandlersAre, SumsAreOfRuns, SumsAreTheEndpoints};
-ghost use Rattle.am_library.specs.Laws.{TheUnknownDidNotRun, WhatCameBackNeverRan, WhatRanWasAskedFor, WholeSums};
+ghost use Rattle.am_library.specs.Laws.{EchoesAreWords, NothingIsLost, NothingIsUnknown, RunsAtMostOnce, RunsWhereHandlersAre, ScriptsGrow};
+ghost use Rattle.am_library.specs.Laws.{SumsAreOfRuns, SumsAreTheEndpoints, TheUnknownDidNotRun, WhatCameBackNeverRan, WhatRanWasAskedFor, WholeSums};
 
 /// A request ran at most once. Example: a library that draws money at each run of a request draws it once, though a link sends each
 /// packet twice.
@@ -94,4 +94,16 @@ pub fn echoes_are_words()
 /// there ran nowhere.
 pub fn all_run_where_they_lead()
     ensures { AllRunWhereTheyLead }
+{}
+
+/// Where the plan loses no packet and delays none, no request is unknown. Example: a library whose plans only repeat asks again for all
+/// that didn't run.
+pub fn nothing_is_unknown()
+    ensures { NothingIsUnknown }
+{}
+
+/// Calls add to a script the words that they ask for, and nothing else where each leaves the endpoint as it is. Example: a loop that asks
+/// for a number in each step has asked for them all, and its server adds as before.
+pub fn scripts_grow()
+    ensures { ScriptsGrow }
 {}

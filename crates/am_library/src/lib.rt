@@ -3,10 +3,13 @@
 #![tactic(auto)]
 
 mod account;
+pub mod calls;
 mod draft;
 mod endings;
 mod faults;
 pub mod laws;
+pub mod lines;
+mod rounds;
 mod runner;
 mod runs;
 mod sums;
@@ -16,5 +19,5 @@ pub use draft::{Draft, DraftFault, Setting};
 pub use endings::Ending;
 pub use faults::RoundFault;
 pub use runner::{AtOnce, BySeed, DrainAlone, Finished, RunFault, RunJournal, Runner};
-pub use runs::runs_at;
+pub use runs::{first_word_at, runs_at};
 pub use sums::sum_at;

@@ -1,6 +1,8 @@
 //! What ran at an endpoint.
 
-ghost use Rattle.std.specs.Prelude.{◌≡◌, ◌∷◌, ◌++◌, [], IfOk, OnOk, option_to_list};
+ghost use Rattle.std.specs.Prelude.{◌≡◌, ◌∷◌, ◌++◌, [], IfOk, OnOk, option_to_list, slice_get};
+ghost use Rattle.std.specs.Option.{option_map};
+ghost use Rattle.am_library.specs.Laws.{first_word};
 ghost use Rattle.am_library.specs.Views.{runs_at};
 
 use am_names::{EndpointId, Message, NoMemory};
@@ -46,4 +48,25 @@ pub fn runs_at(
         put_run(&mut runs, run_at(entry, end))?;
     }
     Ok(runs)
+}
+
+fn first_word(runs: &[Message]) -> Option<u64>
+    ensures { result ≡ option_map first_word (slice_get runs.now 0) }
+{
+    match runs {
+        [first, ..] => Some(first.words.a),
+        [] => None,
+    }
+}
+
+/// The first word of the first request that ran at an endpoint. `NoMemory` comes where there is none for what ran there.
+pub fn first_word_at(
+    alloc: Global,
+    journal: &LoggedJournal,
+    end: EndpointId,
+) -> Result<Option<u64>, NoMemory>
+    ensures { IfOk result (λ word. word ≡ option_map first_word (slice_get (runs_at journal.now end) 0)) }
+{
+    let runs = runs_at(alloc, journal, end)?;
+    Ok(first_word(&runs))
 }

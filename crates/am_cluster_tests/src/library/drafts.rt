@@ -5,6 +5,8 @@ ghost use Rattle.std.specs.Prelude.{◌≡◌, IfOk};
 ghost use Rattle.am_scenario_types.specs.Lawful.{IsLawful};
 ghost use Rattle.am_scenario_types.specs.declared.parts.Network.TheVariants.{Packet};
 
+use am_library::calls::poll;
+use am_library::lines::repeated;
 use am_library::{Draft, DraftFault, Setting};
 use am_names::{EndpointId, NodeId, Tag, Words};
 use am_office_entries::HandlerKind;
@@ -30,8 +32,7 @@ fn serve(draft: &mut Draft) -> Result<EndpointId, DraftFault> {
     let server = draft.endpoint(NodeId(0), Tag(100))?;
     let thread = draft.thread(NodeId(0))?;
     draft.handler(thread, server, 1, HandlerKind::Add(2))?;
-    draft.poll(thread, server)?;
-    draft.poll(thread, server)?;
+    draft.calls(&[poll(thread, server), poll(thread, server)])?;
     Ok(server)
 }
 
@@ -46,11 +47,23 @@ fn ask(draft: &mut Draft, server: EndpointId) -> Result<(), DraftFault> {
     draft.poll(thread, client)
 }
 
-/// The first request is lost once, the first reply is late until it is sent again, and the answer to it comes twice.
+/// The first request is lost once, the first reply is late until it is sent again, and the answer to it comes twice. So would a packet that is
+/// never sent.
 fn withhold(draft: &mut Draft) -> Result<(), DraftFault> {
     draft.lose(NodeId(1), NodeId(0), 1)?;
     draft.late(NodeId(0), NodeId(1), 2, 1)?;
-    draft.repeat(NodeId(1), NodeId(0), 3)
+    draft.repeat(NodeId(1), NodeId(0), 3)?;
+    draft.plans(&[repeated(NodeId(1), NodeId(0), 1_000)])
+}
+
+/// The draft.
+pub fn draft(alloc: Global) -> Result<Draft, DraftFault> {
+    let mut draft = Draft::new(alloc, 2)?;
+    draft.set(Setting::Turns(1))?;
+    let server = serve(&mut draft)?;
+    ask(&mut draft, server)?;
+    withhold(&mut draft)?;
+    Ok(draft)
 }
 
 /// The scenario.
@@ -58,10 +71,5 @@ pub fn scenario(alloc: Global) -> Result<Scenario, DraftFault>
     ensures lawful { IfOk result IsLawful }
     ensures packet { IfOk result (λ scenario. scenario.network ≡ Packet) }
 {
-    let mut draft = Draft::new(alloc, 2)?;
-    draft.set(Setting::Turns(1))?;
-    let server = serve(&mut draft)?;
-    ask(&mut draft, server)?;
-    withhold(&mut draft)?;
-    Ok(draft.finish())
+    Ok(draft(alloc)?.finish())
 }

@@ -2,8 +2,8 @@
 
 ghost use Rattle.std.specs.Thread.{IsSync};
 
-use crate::library::drafts::{CLIENT, SERVER, scenario, words};
-use am_library::{Account, AtOnce, BySeed, DrainAlone, Runner, sum_at};
+use crate::library::drafts::{CLIENT, SERVER, draft, scenario, words};
+use am_library::{Account, AtOnce, BySeed, DrainAlone, Runner, first_word_at, sum_at};
 use am_names::{Cause, Serial, Words};
 use am_office_entries::Fate;
 use std::alloc::Global;
@@ -35,6 +35,7 @@ fn each_request_has_its_fate_and_reply(rt: HostRuntime) -> Result<(), Fail> {
     assert!(rt; account.fate_of(request(4)).is_none());
     assert!(rt; reply_words(&account, 2) == Some(words(7)));
     assert!(rt; reply_words(&account, 3).is_none());
+    assert!(rt; first_word_at(rt.alloc(), &journal, SERVER)? == Some(3));
     Ok(())
 }
 
@@ -42,8 +43,7 @@ fn each_request_has_its_fate_and_reply(rt: HostRuntime) -> Result<(), Fail> {
 fn sum_by<R: Runner, T: Threads + Sync>(runner: &R, rt: &T, alloc: Global) -> Result<u64, Fail>
     requires shared { IsSync T.row }
 {
-    let scenario = scenario(alloc)?;
-    let finished = runner.run(rt, alloc, &scenario)?;
+    let finished = draft(alloc)?.run(runner, rt, alloc)?;
     let journal = finished.journal.logged(alloc)?;
     Ok(sum_at(&journal, SERVER))
 }

@@ -14,6 +14,6 @@ loop-plan-preserved g c =
     } in
     let many : length c.loop-plan.answers.items ≡ c.loop-plan.answers.len = search rules in
     round_added laws c.args.arguments.now c.args.plans.now c.loop-plan.plan-index c.plan-item.result c.loop-plan.answers.len c.loop-plan.answers.items
-    c.deref.result.now c.deref_mut.result.now c.run_round.new.answers c.deref-in-loop-plan.result.now c.in_ok-scenario.scenario c.loop-plan-test.true
-    c.plan-item.is many c.deref.ensures.value c.deref-in-loop-plan.ensures.value c.deref_mut.ensures.value c.in_ok-scenario.ensures.of_round
+    c.deref.result.now c.deref_mut.result.now c.run_round.new.answers c.deref-in-loop-plan.result.now c.draw_up.new.draft c.loop-plan-test.true
+    c.plan-item.is many c.deref.ensures.value c.deref-in-loop-plan.ensures.value c.deref_mut.ensures.value c.in_ok-draw_up.ensures
     c.in_ok-run_round.ensures c.loop-plan.invariant

@@ -1,9 +1,7 @@
-use Rattle.am_names.specs.declared.EndpointId.{EndpointId}
-use Rattle.am_example_calls.proofs.Asking.{asks_ok}
+use Rattle.am_example_calls.proofs.Asking.{asks_four}
 use Rattle.am_example_calls.proofs.rounds.ask.Goals as goal
 
 pub returns : goal.returns
 returns c =
-    let client : EndpointId = record { 0 = 1 } in
-    asks_ok c.args.call client c.args.draft.now c.request.new.self c.poll.new.self c.poll-2.new.self c.poll-3.new.self c.poll-3.result
-    c.in_ok-request.ensures.ok c.in_ok-poll.ensures.ok c.in_ok-poll-2.ensures.ok c.poll-3.ensures.ok
+    asks_four c.scripts_grow.ensures c.args.call c.args.draft.now c.calls.new.self c.request.result c.poll.result c.poll-2.result c.poll-3.result
+    c.in_ok-calls.ensures.ok c.request.ensures c.poll.ensures c.poll-2.ensures c.poll-3.ensures

@@ -15,6 +15,6 @@ loop-token-preserved c =
     let below : c.loop-token.token < length c.args.answers.now = omega (arith, c.requires.as_many) in
     asks_more c.args.arguments.now c.args.answers.now c.loop-token.token c.loop-token.draft c.ask_open.new.draft (omega arith) c.loop-token.invariant
     (subst (λ (call : Words). Asks (open_call call (answer_at c.args.answers.now c.loop-token.token)) c.loop-token.draft c.ask_open.new.draft)
-    c.call_of.ensures
-    (subst (λ (answer : Answer). Asks (open_call c.call_of.result answer) c.loop-token.draft c.ask_open.new.draft)
+    c.two_words.ensures
+    (subst (λ (answer : Answer). Asks (open_call c.two_words.result answer) c.loop-token.draft c.ask_open.new.draft)
     (get_or_default c.args.answers.now c.loop-token.token (Heard nought) NeverRan below) c.in_ok-ask_open.ensures))

@@ -1,0 +1,52 @@
+//! A whole script and a whole plan at once, and the run of a draft.
+
+ghost use Rattle.std.specs.Prelude.{IfErr, IfOk, OnOk, ◌≡◌};
+ghost use Rattle.std.specs.Thread.{IsSync};
+ghost use Rattle.am_cluster.specs.Runs.{IsRunStopped};
+ghost use Rattle.am_library.specs.Drafts.{IsCallRefused, IsLineRefused, with_calls, with_plans};
+ghost use Rattle.am_library.specs.Runs.{IsRun};
+
+use crate::draft::{Draft, DraftFault};
+use crate::runner::{Finished, RunFault, Runner};
+use am_scenario_types::{PlanLine, ScriptCall};
+use std::alloc::Global;
+use std::thread::Threads;
+
+impl Draft {
+    /// The next calls of threads, in order. Where one is refused, those before it are taken.
+    pub fn calls(&mut self, calls: &[ScriptCall]) -> Result<(), DraftFault>
+        ensures ok { OnOk result (self.new ≡ with_calls self.old calls.now) }
+        ensures refused { IfErr result (IsCallRefused self.old calls.now self.new) }
+    {
+        for made in calls {
+            self.call(*made)?;
+        }
+        Ok(())
+    }
+
+    /// The lines of a plan. Where one is refused, those before it are taken.
+    pub fn plans(&mut self, lines: &[PlanLine]) -> Result<(), DraftFault>
+        ensures ok { OnOk result (self.new ≡ with_plans self.old lines.now) }
+        ensures refused { IfErr result (IsLineRefused self.old lines.now self.new) }
+    {
+        for line in lines {
+            self.plan(*line)?;
+        }
+        Ok(())
+    }
+
+    /// Runs the scenario, by a runner. It stops as the runner does.
+    pub fn run<R: Runner, T: Threads + Sync>(
+        self,
+        runner: &R,
+        rt: &T,
+        alloc: Global,
+    ) -> Result<Finished, RunFault>
+        requires shared { IsSync T.row }
+        ensures run { IfOk result (λ finished. IsRun self finished.journal) }
+        ensures stopped { IfErr result (IsRunStopped self) }
+    {
+        let scenario = self.finish();
+        runner.run(rt, alloc, &scenario)
+    }
+}
