@@ -1,6 +1,6 @@
 -- The words of the requests of a journal by their ends, read entry by entry.
 use Rattle.std.proofs.Common.{◌≡◌, ℕ, ◌+◌, ◌<◌, Bool, true, false, ◌&&◌, Option, Some, None, List, [], ◌∷◌, ◌++◌, refl, sym, ap, ◌∙◌, map, filter_map}
-use Rattle.std.proofs.Common.{subst, ◌≤◌, length, take, take_all, get_or, option_to_list, if◌then◌else◌, arith}
+use Rattle.std.proofs.Common.{append_assoc, subst, ◌≤◌, length, take, take_all, get_or, option_to_list, if◌then◌else◌, arith}
 use Rattle.std.specs.Borrow.{Bor}
 use Rattle.std.specs.Prelude.{filter}
 use Rattle.std.specs.List.{cons_option}
@@ -61,27 +61,31 @@ ended_all journal End.Refused = refl
 ended_all journal End.Returned = all_fated is_back journal journal
 ended_all journal End.Unknown = all_fated is_lost journal journal
 
-pub ended_next : (whole : List Entry) (ending : Ending) (xs : List (Bor Entry)) (i : ℕ) (d : Bor Entry) (o : Option Words) (words new : List Words) → i < length xs →
-    words ≡ filter_map (ended_in whole ending) (take i (entries_behind xs)) → o ≡ ended_in whole ending (get_or xs i d).now →
-    new ≡ words ++ option_to_list o → new ≡ filter_map (ended_in whole ending) (take (i + 1) (entries_behind xs))
-ended_next whole ending xs i d o words new below so_far here push =
+pub ended_next : (whole : List Entry) (ending : Ending) (xs : List (Bor Entry)) (i : ℕ) (d : Bor Entry) (o : Option Words) (before words new : List Words) →
+    i < length xs → words ≡ before ++ filter_map (ended_in whole ending) (take i (entries_behind xs)) → o ≡ ended_in whole ending (get_or xs i d).now →
+    new ≡ words ++ option_to_list o → new ≡ before ++ filter_map (ended_in whole ending) (take (i + 1) (entries_behind xs))
+ended_next whole ending xs i d o before words new below so_far here push =
+    let past : List Words = filter_map (ended_in whole ending) (take i (entries_behind xs)) in
     push
     ∙ (λ j. so_far j ++ option_to_list (here j))
-    ∙ ap (λ (l : List Words). filter_map (ended_in whole ending) (take i (entries_behind xs)) ++ l) (listed (ended_in whole ending (get_or xs i d).now))
+    ∙ append_assoc before past (option_to_list (ended_in whole ending (get_or xs i d).now))
+    ∙ ap (λ (l : List Words). before ++ l)
+    (ap (λ (l : List Words). past ++ l) (listed (ended_in whole ending (get_or xs i d).now))
     ∙ sym
     (ap (filter_map (ended_in whole ending)) (behind_next xs i d below)
-    ∙ filter_map-append (ended_in whole ending) (take i (entries_behind xs)) ((get_or xs i d).now ∷ []))
+    ∙ filter_map-append (ended_in whole ending) (take i (entries_behind xs)) ((get_or xs i d).now ∷ [])))
   where
     listed : (p : Option Words) → option_to_list p ≡ cons_option p []
     listed None = refl
     listed (Some w) = refl
 
-pub ended_done : (journal : List Entry) (ending : Ending) (account : Account) (xs : List (Bor Entry)) (i : ℕ) (words : List Words) →
+pub ended_done : (journal : List Entry) (ending : Ending) (account : Account) (xs : List (Bor Entry)) (i : ℕ) (before words : List Words) →
     entries_behind xs ≡ journal → length xs ≤ i →
-    (IsAccountOf (entries_behind xs) account → words ≡ filter_map (ended_in (entries_behind xs) ending) (take i (entries_behind xs))) →
-    IsAccountOf journal account → words ≡ words_ended ending journal
-ended_done journal ending account xs i words behind all so_far are =
+    (IsAccountOf (entries_behind xs) account → words ≡ before ++ filter_map (ended_in (entries_behind xs) ending) (take i (entries_behind xs))) →
+    IsAccountOf journal account → words ≡ before ++ words_ended ending journal
+ended_done journal ending account xs i before words behind all so_far are =
     so_far (subst (λ (l : List Entry). IsAccountOf l account) (sym behind) are)
-    ∙ ap (filter_map (ended_in (entries_behind xs) ending)) (take_all i (entries_behind xs) (omega (arith, length_behind xs, all)))
+    ∙ ap (λ (l : List Words). before ++ l)
+    (ap (filter_map (ended_in (entries_behind xs) ending)) (take_all i (entries_behind xs) (omega (arith, length_behind xs, all)))
     ∙ ended_all (entries_behind xs) ending
-    ∙ ap (words_ended ending) behind
+    ∙ ap (words_ended ending) behind)

@@ -8,6 +8,7 @@ pub mod Adding
 pub mod Handled
 pub mod Faulty
 pub mod Drafted
+pub mod OnNodes
 pub mod Accounting
 pub mod Ran
 pub mod Endwise

@@ -1,10 +1,11 @@
 -- What ran at an endpoint, entry by entry.
-use Rattle.std.proofs.Common.{◌≡◌, ℕ, ◌+◌, ◌<◌, Bool, true, false, ◌&&◌, cond, Option, Some, None, List, [], ◌∷◌, ◌++◌, refl, sym, ap, ◌∙◌, length, take}
-use Rattle.std.proofs.Common.{get_or, filter_map}
+use Rattle.std.proofs.Common.{◌≡◌, ℕ, ◌+◌, ◌<◌, Bool, true, false, ◌&&◌, cond, Option, Some, None, List, [], ◌∷◌, ◌++◌, refl, sym, ap, ◌∙◌, length, take, take_all}
+use Rattle.std.proofs.Common.{◌≤◌, arith, drop, get_or, filter_map, map, slice_get}
 use Rattle.std.specs.Prelude.{filter, fold, option_to_list}
 use Rattle.std.specs.Borrow.{Bor}
 use Rattle.std.specs.List.{cons_option}
-use Rattle.std.proofs.lemmas.List.{append-nil}
+use Rattle.std.specs.Option.{option_map}
+use Rattle.std.proofs.lemmas.List.{append-nil, map_more, take-append-drop}
 use Rattle.std.proofs.lemmas.List.Elements.{filter-append, filter_map-append}
 use Rattle.std.proofs.lemmas.List.Sums.{fold_push}
 use Rattle.am_names.specs.declared.EndpointId.{EndpointId}
@@ -13,8 +14,10 @@ use Rattle.am_names.specs.Names.{is_request}
 use Rattle.am_office_entries.specs.declared.Entry.{Entry}
 use Rattle.am_office_entries.specs.Entries.{run_of}
 use Rattle.am_office_entries.specs.Logged.Behind.{entries_behind}
-use Rattle.am_office_entries.proofs.Entries.{behind_next}
-use Rattle.am_library.specs.Views.{is_to, requests_run, runs_at}
+use Rattle.am_office_entries.proofs.Entries.{behind_next, length_behind}
+use Rattle.am_library.specs.declared.runs.Run.{Run}
+use Rattle.am_library.specs.Laws.{first_word}
+use Rattle.am_library.specs.Views.{is_to, reply_to, requests_run, runs_at, with_reply}
 
 -- a fold over one entry more
 pub folds : {B : Type 0} (f : B → Entry → B) (b : B) (xs : List (Bor Entry)) (i : ℕ) (d : Bor Entry) (mid new : B) → i < length xs →
@@ -42,6 +45,45 @@ runs_next xs e i d o runs new below so_far here push =
 pub runs_same : (xs : List (Bor Entry)) (e : EndpointId) (i : ℕ) (d : Bor Entry) (runs : List Message) → i < length xs →
     runs ≡ runs_at (take i (entries_behind xs)) e → [] ≡ runs_at ((get_or xs i d).now ∷ []) e → runs ≡ runs_at (take (i + 1) (entries_behind xs)) e
 runs_same xs e i d runs below so_far here = runs_next xs e i d None runs runs below so_far here (sym (append-nil runs))
+
+-- ---- the first
+
+abbrev pub FirstWord : List Entry → EndpointId → Option ℕ
+FirstWord journal e = option_map first_word (slice_get (runs_at journal e) 0)
+
+pub first_found : (xs : List (Bor Entry)) (journal : List Entry) (e : EndpointId) (i : ℕ) (d : Bor Entry) (o : Option Message) (m : Message) →
+    entries_behind xs ≡ journal → i < length xs → runs_at (take i (entries_behind xs)) e ≡ [] → option_to_list o ≡ runs_at ((get_or xs i d).now ∷ []) e →
+    o ≡ Some m → Some m.words.a ≡ FirstWord journal e
+first_found xs journal e i d o m behind below none here is =
+    let rest : List Entry = drop (i + 1) (entries_behind xs) in
+    let so_far : m ∷ [] ≡ runs_at (take (i + 1) (entries_behind xs)) e =
+    runs_next xs e i d (Some m) [] (m ∷ []) below (sym none) (sym (ap option_to_list is) ∙ here) refl in
+    let all : m ∷ runs_at rest e ≡ runs_at journal e =
+    ap (λ (l : List Message). l ++ runs_at rest e) so_far
+    ∙ sym (runs_both (take (i + 1) (entries_behind xs)) rest e)
+    ∙ ap (λ (l : List Entry). runs_at l e) (take-append-drop (i + 1) (entries_behind xs) ∙ behind) in
+    ap (λ (l : List Message). option_map first_word (slice_get l 0)) all
+
+pub none_yet : (xs : List (Bor Entry)) (e : EndpointId) (i : ℕ) (d : Bor Entry) (o : Option Message) → i < length xs →
+    runs_at (take i (entries_behind xs)) e ≡ [] → option_to_list o ≡ runs_at ((get_or xs i d).now ∷ []) e → o ≡ None →
+    runs_at (take (i + 1) (entries_behind xs)) e ≡ []
+none_yet xs e i d o below none here is = sym (runs_next xs e i d None [] [] below (sym none) (sym (ap option_to_list is) ∙ here) refl)
+
+pub none_found : (xs : List (Bor Entry)) (journal : List Entry) (e : EndpointId) (i : ℕ) → entries_behind xs ≡ journal → length xs ≤ i →
+    runs_at (take i (entries_behind xs)) e ≡ [] → None ≡ FirstWord journal e
+none_found xs journal e i behind all none =
+    ap (λ (l : List Message). option_map first_word (slice_get l 0))
+    (sym none ∙ ap (λ (l : List Entry). runs_at l e) (take_all i (entries_behind xs) (omega (arith, length_behind xs, all)) ∙ behind))
+
+-- ---- with their replies
+
+pub replied_next : (journal : List Entry) (ms : List Message) (i : ℕ) (d : Message) (reply : Option Message) (runs new : List Run) → i < length ms →
+    runs ≡ map (with_reply journal) (take i ms) → reply ≡ reply_to journal (get_or ms i d).serial →
+    new ≡ runs ++ record { request = get_or ms i d; reply = reply } ∷ [] → new ≡ map (with_reply journal) (take (i + 1) ms)
+replied_next journal ms i d reply runs new below so_far here push =
+    push
+    ∙ (λ j. so_far j ++ record { request = get_or ms i d; reply = here j } ∷ [])
+    ∙ sym (map_more (with_reply journal) ms i d below)
 
 -- the request that one entry runs at an endpoint
 kept : (e : EndpointId) (m : Message) (a b : Bool) → is_request m ≡ a → is_to e m ≡ b →

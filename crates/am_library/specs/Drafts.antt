@@ -1,8 +1,8 @@
 -- A scenario in the making: what each call adds, and why it may be refused. Of the conditions of a call the first that holds is the cause.
 use Rattle.std.specs.Prelude.{◌≡◌, ℕ, ◌^◌, ◌<◌, ◌≤◌, ◌==◌, ◌&&◌, ◌||◌, Bool, true, false, not, nat_le, Option, Some, None, is_none, Result}
 use Rattle.std.specs.Prelude.{Ok, Err}
-use Rattle.std.specs.Prelude.{List, [], ◌∷◌, ◌++◌, length, count_by, slice_get, take}
-use Rattle.std.specs.List.{All, list_any}
+use Rattle.std.specs.Prelude.{◌+◌, List, [], ◌∷◌, ◌++◌, length, count_by, map, slice_get, take}
+use Rattle.std.specs.List.{All, list_any, range_with_len}
 use Rattle.am_names.specs.declared.EndpointId.{EndpointId}
 use Rattle.am_names.specs.declared.NodeId.{NodeId}
 use Rattle.am_names.specs.declared.Tag.{Tag}
@@ -118,6 +118,32 @@ thread_line s node = record { id = length s.threads; node = node }
 
 abbrev pub with_thread : ScenarioLists → NodeId → ScenarioLists
 with_thread s node = record s { threads = s.threads ++ thread_line s node ∷ [] }
+
+-- ---- an endpoint and a thread on each of so many nodes
+
+abbrev pub node_numbered : ℕ → NodeId
+node_numbered n = record { 0 = n }
+
+abbrev pub end_on : ScenarioLists → Tag → ℕ → EndLine
+end_on s tag n = record { id = record { 0 = length s.ends + n }; node = record { 0 = n }; tag = tag; disk = false }
+
+abbrev pub thread_on : ScenarioLists → ℕ → ThreadLine
+thread_on s n = record { id = length s.threads + n; node = record { 0 = n } }
+
+abbrev pub with_nodes : ScenarioLists → Tag → ℕ → ScenarioLists
+with_nodes s tag count = record s {
+  ends = s.ends ++ map (end_on s tag) (range_with_len 0 count);
+  threads = s.threads ++ map (thread_on s) (range_with_len 0 count);
+}
+
+-- the nodes before one have both, and that one's endpoint is refused, or its thread once the endpoint is there
+pub data IsNodeRefused (old : ScenarioLists) (tag : Tag) (new : ScenarioLists) (fault : DraftFault) : Type 0 where
+  NoEnd :
+      (n : ℕ) → n < old.nodes → new ≡ with_nodes old tag n → IsRefusedFor {A = EndpointId} (Err fault) (end_fault new (node_numbered n)) →
+      IsNodeRefused old tag new fault
+  NoThread :
+      (n : ℕ) → n < old.nodes → new ≡ with_end (with_nodes old tag n) (node_numbered n) tag →
+      IsRefusedFor {A = ℕ} (Err fault) (thread_fault new (node_numbered n)) → IsNodeRefused old tag new fault
 
 -- ---- calls
 

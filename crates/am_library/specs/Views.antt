@@ -14,6 +14,7 @@ use Rattle.am_office_entries.specs.Entries.{accepted_of, run_of}
 use Rattle.am_model.specs.Calls.{sum_after}
 use Rattle.am_model.specs.Changes.{kind_run}
 use Rattle.am_model.specs.PostOffice.{is_about}
+use Rattle.am_library.specs.declared.runs.Run.{Run}
 use Rattle.am_library.specs.declared.sums.Summing.{Summing}
 
 -- the requests that were accepted, in order
@@ -34,6 +35,10 @@ runs_at journal e = filter (is_to e) (requests_run journal)
 -- the reply to a request, where the endpoint that made the request ran it: it is the message about the request that ran
 abbrev pub reply_to : List Entry → Serial → Option Message
 reply_to journal s = find (is_about s) (filter_map run_of journal)
+
+-- a request that ran, with the reply to it
+abbrev pub with_reply : List Entry → Message → Run
+with_reply journal m = record { request = m; reply = reply_to journal m.serial }
 
 -- ---- the sum of an endpoint, with the handlers that are set there
 

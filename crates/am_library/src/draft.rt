@@ -385,6 +385,13 @@ impl Draft {
         })
     }
 
+    /// How many nodes it has.
+    pub fn nodes(&self) -> u8
+        ensures { result ≡ self.now.nodes }
+    {
+        self.scenario.nodes
+    }
+
     /// Sets a number of the run. BadNumber: it is out of its range.
     pub fn set(&mut self, setting: Setting) -> Result<(), DraftFault>
         ensures ok { OnOk result (self.new ≡ with_setting self.old setting) }

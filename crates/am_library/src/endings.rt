@@ -83,6 +83,23 @@ fn put_words(list: &mut Vec<Words>, words: Option<Words>) -> Result<(), NoMemory
 }
 
 impl Account {
+    /// The words of the requests that ended so, in order, behind those of a list, where the account is of this journal. It goes over the
+    /// journal once. `NoMemory` comes where there is none for them.
+    pub(crate) fn add_ended(
+        &self,
+        journal: &LoggedJournal,
+        ending: Ending,
+        list: &mut Vec<Words>,
+    ) -> Result<(), NoMemory>
+        ensures { IsAccountOf journal.now self.now → OnOk result (list.new.items ≡ list.old.items ++ words_ended ending journal.now) }
+    {
+        let entries = journal.entries();
+        for entry in entries {
+            put_words(list, ended_in(self, ending, entry))?;
+        }
+        Ok(())
+    }
+
     /// The words of the requests that ended so, in order, where the account is of this journal: what was refused or came back may be sent
     /// again. It goes over the journal once. `NoMemory` comes where there is none for them.
     pub fn words_ended(
@@ -93,11 +110,8 @@ impl Account {
     ) -> Result<Vec<Words>, NoMemory>
         ensures { IsAccountOf journal.now self.now → IfOk result (λ words. words.items ≡ words_ended ending journal.now) }
     {
-        let entries = journal.entries();
         let mut words = Vec::new(alloc);
-        for entry in entries {
-            put_words(&mut words, ended_in(self, ending, entry))?;
-        }
+        self.add_ended(journal, ending, &mut words)?;
         Ok(words)
     }
 }

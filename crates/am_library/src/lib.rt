@@ -13,11 +13,13 @@ mod rounds;
 mod runner;
 mod runs;
 mod sums;
+mod tally;
 
 pub use account::Account;
 pub use draft::{Draft, DraftFault, Setting};
 pub use endings::Ending;
 pub use faults::RoundFault;
 pub use runner::{AtOnce, BySeed, DrainAlone, Finished, RunFault, RunJournal, Runner};
-pub use runs::{first_word_at, runs_at};
+pub use runs::{Run, first_word_at, runs_at, runs_with_replies};
 pub use sums::sum_at;
+pub use tally::Tally;

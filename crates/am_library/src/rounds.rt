@@ -1,18 +1,31 @@
-//! A whole script and a whole plan at once, and the run of a draft.
+//! All nodes, a whole script or a whole plan at once, and the run of a draft.
 
 ghost use Rattle.std.specs.Prelude.{IfErr, IfOk, OnOk, ◌≡◌};
 ghost use Rattle.std.specs.Thread.{IsSync};
 ghost use Rattle.am_cluster.specs.Runs.{IsRunStopped};
-ghost use Rattle.am_library.specs.Drafts.{IsCallRefused, IsLineRefused, with_calls, with_plans};
+ghost use Rattle.am_library.specs.Drafts.{IsCallRefused, IsLineRefused, IsNodeRefused, with_calls, with_nodes, with_plans};
 ghost use Rattle.am_library.specs.Runs.{IsRun};
 
 use crate::draft::{Draft, DraftFault};
 use crate::runner::{Finished, RunFault, Runner};
+use am_names::{NodeId, Tag};
 use am_scenario_types::{PlanLine, ScriptCall};
 use std::alloc::Global;
 use std::thread::Threads;
 
 impl Draft {
+    /// An endpoint with this tag and a thread on each node, in the order of the nodes. Where one is refused, those before it are taken.
+    pub fn on_each_node(&mut self, tag: Tag) -> Result<(), DraftFault>
+        ensures ok { OnOk result (self.new ≡ with_nodes self.old tag self.old.nodes) }
+        ensures refused { IfErr result (IsNodeRefused self.old tag self.new) }
+    {
+        for node in 0..self.nodes() {
+            self.endpoint(NodeId(node), tag)?;
+            self.thread(NodeId(node))?;
+        }
+        Ok(())
+    }
+
     /// The next calls of threads, in order. Where one is refused, those before it are taken.
     pub fn calls(&mut self, calls: &[ScriptCall]) -> Result<(), DraftFault>
         ensures ok { OnOk result (self.new ≡ with_calls self.old calls.now) }

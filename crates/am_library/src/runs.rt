@@ -1,10 +1,11 @@
-//! What ran at an endpoint.
+//! What ran at an endpoint, and what was replied.
 
-ghost use Rattle.std.specs.Prelude.{◌≡◌, ◌∷◌, ◌++◌, [], IfOk, OnOk, option_to_list, slice_get};
+ghost use Rattle.std.specs.Prelude.{◌≡◌, ◌∷◌, ◌++◌, [], IfOk, OnOk, map, option_to_list, slice_get};
 ghost use Rattle.std.specs.Option.{option_map};
 ghost use Rattle.am_library.specs.Laws.{first_word};
-ghost use Rattle.am_library.specs.Views.{runs_at};
+ghost use Rattle.am_library.specs.Views.{runs_at, with_reply};
 
+use crate::account::Account;
 use am_names::{EndpointId, Message, NoMemory};
 use am_office_entries::logged::LoggedJournal;
 use am_office_entries::{Entry, run_of};
@@ -50,23 +51,44 @@ pub fn runs_at(
     Ok(runs)
 }
 
-fn first_word(runs: &[Message]) -> Option<u64>
-    ensures { result ≡ option_map first_word (slice_get runs.now 0) }
+/// The first word of the first request that ran at an endpoint. It looks no further than that.
+pub fn first_word_at(journal: &LoggedJournal, end: EndpointId) -> Option<u64>
+    ensures { result ≡ option_map first_word (slice_get (runs_at journal.now end) 0) }
 {
-    match runs {
-        [first, ..] => Some(first.words.a),
-        [] => None,
+    let entries = journal.entries();
+    for entry in entries {
+        if let Some(run) = run_at(entry, end) {
+            return Some(run.words.a);
+        }
     }
+    None
 }
 
-/// The first word of the first request that ran at an endpoint. `NoMemory` comes where there is none for what ran there.
-pub fn first_word_at(
+/// A request that ran, and the reply to it.
+#[derive(Clone, Copy)]
+pub struct Run {
+    pub request: Message,
+    /// The reply or empty reply, where the endpoint that made the request ran it.
+    pub reply: Option<Message>,
+}
+
+/// The requests that ran at an endpoint with their replies, in the order in which they ran. `NoMemory` comes where there is none for them.
+pub fn runs_with_replies(
     alloc: Global,
     journal: &LoggedJournal,
     end: EndpointId,
-) -> Result<Option<u64>, NoMemory>
-    ensures { IfOk result (λ word. word ≡ option_map first_word (slice_get (runs_at journal.now end) 0)) }
+) -> Result<Vec<Run>, NoMemory>
+    ensures { IfOk result (λ runs. runs.items ≡ map (with_reply journal.now) (runs_at journal.now end)) }
 {
-    let runs = runs_at(alloc, journal, end)?;
-    Ok(first_word(&runs))
+    let requests = runs_at(alloc, journal, end)?;
+    let account = Account::of(alloc, journal)?;
+    let mut runs = Vec::new(alloc);
+    for request in &requests {
+        let reply = account.reply_to(request.serial);
+        runs.push(Run {
+            request: *request,
+            reply,
+        })?;
+    }
+    Ok(runs)
 }
