@@ -4,6 +4,7 @@ use Rattle.std.proofs.Common.{All, append-nil, length, map, slice_get, get_or}
 use Rattle.std.specs.Prelude.{IfSome, filter, sum_by}
 use Rattle.std.specs.List.{Contains, range_with_len}
 use Rattle.std.specs.Option.{option_map}
+use Rattle.std.proofs.lemmas.Bool.{and_parts}
 use Rattle.std.proofs.lemmas.Grind.{flat_map-append}
 use Rattle.std.proofs.lemmas.List.{length_push}
 use Rattle.std.proofs.lemmas.List.Concat.{flat_map-cons}
@@ -17,14 +18,15 @@ use Rattle.am_office_entries.specs.declared.Entry.{Entry}
 use Rattle.am_scenario_plan.specs.declared.plan.LinkFault.TheVariants.{Repeat}
 use Rattle.am_scenario_plan.specs.declared.plan.PlanLine.{PlanLine}
 use Rattle.am_scenario_types.specs.Lists.{ScenarioLists}
+use Rattle.am_library.specs.declared.tally.Tally.{Tally}
 use Rattle.am_library.specs.Ends.{is_back, is_lost, words_asked, words_fated, words_of, words_refused, words_run}
 use Rattle.am_library.specs.Laws.{AllRunWhereTheyLead, EachRequestHasItsEnd, NothingIsUnknown, SumsAreOfRuns, WhatRanWasAskedFor, first_of, first_word}
 use Rattle.am_library.specs.Runs.{IsRun}
+use Rattle.am_library.specs.Tallies.{IsBegun, IsOutcome, is_whole, left_by}
 use Rattle.am_library.specs.Views.{is_to, requests_run, runs_at, sum_at}
 use Rattle.am_library.proofs.Weights.{sum_map}
-use Rattle.am_example_reduce.specs.declared.reduce.Summed.{Summed}
 use Rattle.am_example_reduce.specs.Rounds.{Asks, SendsSum, end_of, root}
-use Rattle.am_example_reduce.specs.Sums.{AreNotes, IsAfter, IsOutcome, Leave, Run, Sums, SumsAllBut, heard_by, left_by, unknown_by, weight_at_root, weight_summed}
+use Rattle.am_example_reduce.specs.Sums.{AreNotes, IsAfter, Leave, Run, Sums, SumsAllBut, heard_by, unknown_by, weight_at_root, weight_summed}
 use Rattle.am_example_reduce.proofs.Lists.{filter_in}
 
 -- ---- a round more
@@ -48,8 +50,8 @@ unknown_more {plan} runs run =
     ∙ ap (λ (l : List Words). unknown_by runs ++ l)
     (flat_map-cons (λ (r : Run plan). words_fated is_lost r.journal) run [] ∙ append-nil (words_fated is_lost run.journal))
 
-round_more : (plan : List PlanLine) (numbers : List Words) (before now : Summed) (s : ScenarioLists) (journal : List Entry) → EachRequestHasItsEnd →
-    AllRunWhereTheyLead → SumsAreOfRuns → NothingIsUnknown → IsRun s journal → Asks plan before.left.items s → IsOutcome before journal now →
+round_more : (plan : List PlanLine) (numbers : List Words) (before now : Tally) (s : ScenarioLists) (journal : List Entry) → EachRequestHasItsEnd →
+    AllRunWhereTheyLead → SumsAreOfRuns → NothingIsUnknown → IsRun s journal → Asks plan before.left.items s → IsOutcome before journal root now →
     (so_far : Sums plan numbers before) → (sums : Sums plan numbers now) × (length sums.runs ≡ length so_far.runs + 1)
 round_more plan numbers before now s journal ends lead sums unknown is_run asks outcome so_far = (
   record {
@@ -91,9 +93,9 @@ round_more plan numbers before now s journal ends lead sums unknown is_run asks 
     there : runs_at journal root ≡ requests_run journal
     there = lead s journal root is_run asks.lead
 
-pub after_more : (plan : List PlanLine) (numbers : List Words) (rounds : ℕ) (before now : Summed) (s : ScenarioLists) (journal : List Entry) →
+pub after_more : (plan : List PlanLine) (numbers : List Words) (rounds : ℕ) (before now : Tally) (s : ScenarioLists) (journal : List Entry) →
     EachRequestHasItsEnd → AllRunWhereTheyLead → SumsAreOfRuns → NothingIsUnknown → IsRun s journal → Asks plan before.left.items s →
-    IsOutcome before journal now → before.left.items ≢ [] → IsAfter plan numbers rounds before → IsAfter plan numbers (rounds + 1) now
+    IsOutcome before journal root now → before.left.items ≢ [] → IsAfter plan numbers rounds before → IsAfter plan numbers (rounds + 1) now
 after_more plan numbers rounds before now s journal ends lead sums unknown is_run asks outcome some so_far =
     let next = round_more plan numbers before now s journal ends lead sums unknown is_run asks outcome so_far.0 in
     let many : length so_far.0.runs ≡ rounds =
@@ -101,26 +103,25 @@ after_more plan numbers rounds before now s journal ends lead sums unknown is_ru
     (next.0, inl (next.1 ∙ ap (λ (n : ℕ). n + 1) many))
 
 -- nothing is left, so no round is made
-pub after_none : (plan : List PlanLine) (numbers : List Words) (rounds : ℕ) (summed : Summed) → summed.left.items ≡ [] → IsAfter plan numbers rounds summed →
-    IsAfter plan numbers (rounds + 1) summed
-after_none plan numbers rounds summed none so_far = (so_far.0, inr none)
+pub after_none : (plan : List PlanLine) (numbers : List Words) (rounds : ℕ) (tally : Tally) → tally.left.items ≡ [] → IsAfter plan numbers rounds tally →
+    IsAfter plan numbers (rounds + 1) tally
+after_none plan numbers rounds tally none so_far = (so_far.0, inr none)
 
-pub round_none : (plan : List PlanLine) (numbers : List Words) (summed : Summed) → summed.sum ≡ 0 → summed.left.items ≡ numbers →
-    summed.unknown.items ≡ [] → IsAfter plan numbers 0 summed
-round_none plan numbers summed nought all none = (
+pub round_none : (plan : List PlanLine) (numbers : List Words) (tally : Tally) → IsBegun numbers tally → IsAfter plan numbers 0 tally
+round_none plan numbers tally begun = (
   record {
     runs = [];
-    left' = all;
-    unknown' = none;
-    each = λ (weight : Words → ℕ). omega (arith, ap (sum_by weight) all, ap (sum_by weight) none);
-    summed = nought;
-    at_root = nought;
-    known = λ (repeats : All (λ (line : PlanLine). line.fault ≡ Repeat) plan). none;
+    left' = begun.left';
+    unknown' = begun.unknown';
+    each = λ (weight : Words → ℕ). omega (arith, ap (sum_by weight) begun.left', ap (sum_by weight) begun.unknown');
+    summed = begun.sum';
+    at_root = begun.sum';
+    known = λ (repeats : All (λ (line : PlanLine). line.fault ≡ Repeat) plan). begun.unknown';
   },
   inl refl,
 )
 
--- ---- what is not empty
+-- ---- what is left or unknown
 
 false_is_true : false ≡ true → ⊥
 false_is_true is = absurd (cc)
@@ -135,15 +136,28 @@ left_none true n [] is many test = refl
 left_none true n (x ∷ items) is many test = absurd (let zero : n ≡ 0 = eqb-true n 0 (sym is) in omega (arith, many, zero))
 left_none false n items is many test = absurd (cc)
 
-pub some_length : (items : List Words) → items ≢ [] → 0 < length items
-some_length [] some = absurd (some refl)
-some_length (x ∷ items) some = omega arith
+-- two lists of which one has an element, or neither
+some_open : (left unknown : List Words) → ((length left == 0) && (length unknown == 0)) ≡ false → 0 < length left + length unknown
+some_open [] [] test = absurd (cc)
+some_open [] (w ∷ unknown) test = omega arith
+some_open (w ∷ left) unknown test = omega arith
 
-pub is_whole : (plan : List PlanLine) (numbers : List Words) (summed : Summed) → Sums plan numbers summed → summed.left.items ≡ [] →
-    summed.unknown.items ≡ [] → (summed.sum ≡ sum_by first_of numbers % 2 ^ 64) × SumsAllBut plan numbers summed.sum [] []
-is_whole plan numbers summed sums none_left none_unknown =
-    let all : SumsAllBut plan numbers summed.sum [] [] =
-    coe 0 1 (i. SumsAllBut plan numbers summed.sum (none_left i) (none_unknown i)) sums in
+none_open : (left unknown : List Words) → ((length left == 0) && (length unknown == 0)) ≡ true → (left ≡ []) × (unknown ≡ [])
+none_open [] [] test = (refl, refl)
+none_open [] (w ∷ unknown) test = absurd (let some : length (w ∷ unknown) ≡ 0 = eqb-true (length (w ∷ unknown)) 0 test in omega (arith, some))
+none_open (w ∷ left) unknown test =
+    absurd (let some : length (w ∷ left) ≡ 0 = eqb-true (length (w ∷ left)) 0 (and_parts (length (w ∷ left) == 0) (length unknown == 0) test).0 in
+    omega (arith, some))
+
+pub is_open : (tally : Tally) → is_whole tally ≡ false → 0 < length tally.left.items + length tally.unknown.items
+is_open tally test = some_open tally.left.items tally.unknown.items test
+
+pub whole : (plan : List PlanLine) (numbers : List Words) (tally : Tally) → Sums plan numbers tally → is_whole tally ≡ true →
+    (tally.sum ≡ sum_by first_of numbers % 2 ^ 64) × SumsAllBut plan numbers tally.sum [] []
+whole plan numbers tally sums test =
+    let none = none_open tally.left.items tally.unknown.items test in
+    let all : SumsAllBut plan numbers tally.sum [] [] =
+    coe 0 1 (i. SumsAllBut plan numbers tally.sum (none.0 i) (none.1 i)) sums in
     let total : weight_summed first_of all.runs ≡ sum_by first_of numbers = omega (arith, all.each first_of) in
     (all.summed ∙ ap (λ (n : ℕ). n % 2 ^ 64) total, all)
 

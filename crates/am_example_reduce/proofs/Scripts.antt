@@ -1,7 +1,9 @@
 -- What the calls of a round add to its script.
 use Rattle.std.proofs.Common.{◌≡◌, ℕ, ◌+◌, Bool, ◌&&◌, ◌||◌, not, true, List, [], ◌∷◌, ◌++◌, refl, sym, ap, ◌∙◌, subst, arith, All}
+use Rattle.std.specs.Prelude.{OnOk, Result}
 use Rattle.std.specs.List.{list_all}
 use Rattle.std.proofs.lemmas.List.Elements.{All-nil, All-push}
+use Rattle.std.proofs.lemmas.Result.{on_ok_weaker}
 use Rattle.am_lemmas.proofs.Numbers.{eqb_less}
 use Rattle.am_names.specs.declared.Tag.{Tag}
 use Rattle.am_names.specs.declared.Words.{Words}
@@ -11,6 +13,7 @@ use Rattle.am_office_entries.specs.declared.Call.TheVariants as Calls
 use Rattle.am_scenario_plan.specs.declared.plan.PlanLine.{PlanLine}
 use Rattle.am_scenario_types.specs.declared.parts.ScriptCall.{ScriptCall}
 use Rattle.am_scenario_types.specs.Lists.{ScenarioLists}
+use Rattle.am_library.specs.declared.draft.DraftFault.{DraftFault}
 use Rattle.am_library.specs.Drafts.{made, with_call, with_calls}
 use Rattle.am_library.specs.Ends.{words_asked}
 use Rattle.am_library.specs.Laws.{ScriptsGrow, is_adding, leads, leaves_adding}
@@ -39,11 +42,11 @@ asks_begin plan s t script planned next =
 other_adds : (thread node : ℕ) (call : Call) → leaves_adding root (made thread (end_of node) call) ≡ true
 other_adds thread node call = ap (λ (b : Bool). not b || is_adding call) (eqb_less 0 (node + 1) (omega arith))
 
-pub asks_sent : (grow : ScriptsGrow) (plan : List PlanLine) (numbers : List Words) (node : ℕ) (tag : Tag) (words : Words) (s t : ScenarioLists)
+sent : (grow : ScriptsGrow) (plan : List PlanLine) (numbers : List Words) (node : ℕ) (tag : Tag) (words : Words) (s t : ScenarioLists)
     (a b c d : ScriptCall) → t ≡ with_calls s (a ∷ b ∷ c ∷ d ∷ []) → a ≡ made node (end_of node) (Calls.Map 0 root tag 1) →
     b ≡ made node (end_of node) (Calls.Request 0 1 words) → c ≡ made 0 root Calls.Poll → d ≡ made node (end_of node) Calls.Poll →
     Asks plan numbers s → Asks plan (numbers ++ words ∷ []) t
-asks_sent grow plan numbers node tag words s t a b c d is first second third last asks =
+sent grow plan numbers node tag words s t a b c d is first second third last asks =
     let map' : Call = Calls.Map 0 root tag 1 in
     let request : Call = Calls.Request 0 1 words in
     let calls : List ScriptCall =
@@ -60,6 +63,13 @@ asks_sent grow plan numbers node tag words s t a b c d is first second third las
       adds = more.adds root asks.adds add;
       lead = more.leads' root asks.lead refl;
     })
+
+pub asks_sent : (grow : ScriptsGrow) (plan : List PlanLine) (numbers : List Words) (node : ℕ) (tag : Tag) (words : Words) (s t : ScenarioLists)
+    (a b c d : ScriptCall) (r : Result (Unit {0}) DraftFault) → OnOk r (t ≡ with_calls s (a ∷ b ∷ c ∷ d ∷ [])) →
+    a ≡ made node (end_of node) (Calls.Map 0 root tag 1) → b ≡ made node (end_of node) (Calls.Request 0 1 words) → c ≡ made 0 root Calls.Poll →
+    d ≡ made node (end_of node) Calls.Poll → Asks plan numbers s → OnOk r (Asks plan (numbers ++ words ∷ []) t)
+asks_sent grow plan numbers node tag words s t a b c d r is first second third last asks =
+    on_ok_weaker r (λ (so : t ≡ with_calls s (a ∷ b ∷ c ∷ d ∷ [])). sent grow plan numbers node tag words s t a b c d so first second third last asks) is
 
 -- ---- a round that tells
 

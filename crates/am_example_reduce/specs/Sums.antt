@@ -8,12 +8,13 @@ use Rattle.am_office_entries.specs.declared.Entry.{Entry}
 use Rattle.am_scenario_plan.specs.declared.plan.LinkFault.TheVariants.{Repeat}
 use Rattle.am_scenario_plan.specs.declared.plan.PlanLine.{PlanLine}
 use Rattle.am_scenario_types.specs.Lists.{ScenarioLists}
-use Rattle.am_library.specs.Ends.{is_back, is_lost, words_asked, words_fated, words_refused}
+use Rattle.am_library.specs.declared.tally.Tally.{Tally}
+use Rattle.am_library.specs.Ends.{is_lost, words_asked, words_fated}
 use Rattle.am_library.specs.Laws.{first_of, first_word}
 use Rattle.am_library.specs.Runs.{IsRun}
+use Rattle.am_library.specs.Tallies.{left_by}
 use Rattle.am_library.specs.Views.{runs_at, sum_at}
 use Rattle.am_example_reduce.specs.declared.reduce.Reduced.{Reduced}
-use Rattle.am_example_reduce.specs.declared.reduce.Summed.{Summed}
 use Rattle.am_example_reduce.specs.declared.reduce.Reduced.TheVariants as Answer
 use Rattle.am_example_reduce.specs.Rounds.{end_of, root}
 
@@ -30,10 +31,6 @@ weight_at_root weight journal = sum_by (λ (m : Message). weight m.words) (runs_
 
 abbrev pub weight_summed : {plan : List PlanLine} → (Words → ℕ) → List (Run plan) → ℕ
 weight_summed {plan} weight runs = sum_by (λ (run : Run plan). weight_at_root weight run.journal) runs
-
--- what a round leaves, which may be sent again: what was refused or came back
-abbrev pub left_by : List Entry → List Words
-left_by journal = words_refused journal ++ words_fated is_back journal
 
 -- Rounds one after the other: the first asks for these numbers, each next for what the one before left, and the last leaves this.
 abbrev pub Leave : {plan : List PlanLine} → List Words → List (Run plan) → List Words → Type 0
@@ -56,15 +53,9 @@ pub record SumsAllBut (plan : List PlanLine) (numbers : List Words) (sum : ℕ) 
   pub at_root : sum ≡ sum_by (λ (run : Run plan). sum_at run.journal root) runs % 2 ^ 64
   pub known : All (λ (line : PlanLine). line.fault ≡ Repeat) plan → unknown ≡ []
 
--- the same of what is told of the sum
-abbrev pub Sums : List PlanLine → List Words → Summed → Type 0
-Sums plan numbers summed = SumsAllBut plan numbers summed.sum summed.left.items summed.unknown.items
-
--- What is summed after a round: the root's sum is added, what was refused or came back is left, and what is unknown stays unknown.
-pub record IsOutcome (before : Summed) (journal : List Entry) (now : Summed) : Type 0 where
-  pub sum' : now.sum ≡ (before.sum + sum_at journal root) % 2 ^ 64
-  pub left' : now.left.items ≡ left_by journal
-  pub unknown' : now.unknown.items ≡ before.unknown.items ++ words_fated is_lost journal
+-- the same of a tally
+abbrev pub Sums : List PlanLine → List Words → Tally → Type 0
+Sums plan numbers tally = SumsAllBut plan numbers tally.sum tally.left.items tally.unknown.items
 
 -- the number that a node heard: the first word of the first request that ran at its endpoint
 abbrev pub heard_by : List Entry → ℕ → Option ℕ
@@ -77,13 +68,13 @@ pub record AreNotes (plan : List PlanLine) (nodes sum : ℕ) (notes : List (Opti
   pub same : All (λ (note : Option ℕ). IfSome note (λ (number : ℕ). number ≡ sum)) notes
 
 -- so many rounds came to this, or nothing was left before
-abbrev pub IsAfter : List PlanLine → List Words → ℕ → Summed → Type 0
-IsAfter plan numbers rounds summed = (sums : Sums plan numbers summed) × ((length sums.runs ≡ rounds) ⊎ (summed.left.items ≡ []))
+abbrev pub IsAfter : List PlanLine → List Words → ℕ → Tally → Type 0
+IsAfter plan numbers rounds tally = (sums : Sums plan numbers tally) × ((length sums.runs ≡ rounds) ⊎ (tally.left.items ≡ []))
 
 -- THE ANSWER. Whole: the sum of all numbers modulo 2^64, and what the nodes heard. Open: that of the numbers but some, which are listed; what
 -- is left was asked for in four rounds.
 abbrev pub IsReduced : List PlanLine → ℕ → List Words → Reduced → Type 0
 IsReduced plan nodes numbers (Answer.Whole sum notes) =
     (sum ≡ sum_by first_of numbers % 2 ^ 64) × SumsAllBut plan numbers sum [] [] × AreNotes plan nodes sum notes.items
-IsReduced plan nodes numbers (Answer.Open summed) =
-    IsAfter plan numbers 4 summed × (0 < length summed.left.items + length summed.unknown.items)
+IsReduced plan nodes numbers (Answer.Open tally) =
+    IsAfter plan numbers 4 tally × (0 < length tally.left.items + length tally.unknown.items)

@@ -7,12 +7,11 @@ ghost use Rattle.std.specs.Thread.{IsSync};
 ghost use Rattle.am_names.specs.declared.Words.{Words};
 ghost use Rattle.am_scenario_plan.specs.declared.plan.PlanLine.{PlanLine};
 ghost use Rattle.am_example_reduce.specs.Rounds.{Asks, SendsSum};
-ghost use Rattle.am_example_reduce.specs.Sums.{IsOutcome, IsReduced, heard_by};
+ghost use Rattle.am_example_reduce.specs.Sums.{IsReduced, heard_by};
 
 use am_library::calls::{handler, map, poll, request, two_words};
 use am_library::{
-    Account, Draft, DraftFault, Ending, Finished, RoundFault, Runner, Setting, first_word_at, laws,
-    sum_at,
+    Draft, DraftFault, Finished, RoundFault, Runner, Setting, Tally, first_word_at, laws,
 };
 use am_names::{EndpointId, NoMemory, NodeId, Tag, Words};
 use am_office_entries::HandlerKind;
@@ -24,23 +23,13 @@ const ROOT: EndpointId = EndpointId(0);
 
 const TAG: Tag = Tag(1);
 
-/// What was summed, and what was not. Of each number the first word is the number, the second its node.
-#[derive(Drop)]
-pub struct Summed {
-    pub sum: u64,
-    /// What never ran: whenever it was sent, it was refused or came back.
-    pub left: Vec<Words>,
-    /// What its node knows nothing of, so that it isn't sent again. It isn't in the sum.
-    pub unknown: Vec<Words>,
-}
-
-/// A sum over nodes.
+/// A sum over nodes. Of each number the first word is the number, the second its node.
 #[derive(Drop)]
 pub enum Reduced {
     /// Of all numbers, and what each node heard, in the order of the nodes.
     Whole { sum: u64, notes: Vec<Option<u64>> },
-    /// Of all numbers but those that are listed, of which there is one at least.
-    Open(Summed),
+    /// Of all numbers but those that are left or unknown, of which there is one at least.
+    Open(Tally),
 }
 
 // The nodes with their endpoints and threads, under a plan.
@@ -50,10 +39,7 @@ fn planned(alloc: Global, nodes: u8, plan: &[PlanLine]) -> Result<Draft, DraftFa
     let mut draft = Draft::new(alloc, nodes)?;
     draft.set(Setting::Turns(40))?;
     draft.endpoint(NodeId(0), TAG)?;
-    for node in 0..nodes {
-        draft.endpoint(NodeId(node), TAG)?;
-        draft.thread(NodeId(node))?;
-    }
+    draft.on_each_node(TAG)?;
     draft.plans(plan)?;
     Ok(draft)
 }
@@ -73,8 +59,7 @@ fn send(draft: &mut Draft, words: Words) -> Result<(), DraftFault>
         request(node, end, 0, 1, words),
         poll(0, ROOT),
         poll(node, end),
-    ])?;
-    Ok(())
+    ])
 }
 
 // Each number is sent to the root, which adds it.
@@ -105,20 +90,6 @@ fn tell(draft: &mut Draft, nodes: u8, sum: u64) -> Result<(), DraftFault>
     Ok(())
 }
 
-// What is summed after a round.
-fn after(alloc: Global, before: &Summed, finished: &Finished) -> Result<Summed, NoMemory>
-    ensures { IfOk result (IsOutcome before.now finished.now.journal) }
-{
-    let journal = finished.journal.logged(alloc)?;
-    let account = Account::of(alloc, &journal)?;
-    let mut left = account.words_ended(alloc, &journal, Ending::Refused)?;
-    left.extend_from_slice(&account.words_ended(alloc, &journal, Ending::Returned)?)?;
-    let mut unknown = Vec::from_slice(alloc, &before.unknown)?;
-    unknown.extend_from_slice(&account.words_ended(alloc, &journal, Ending::Unknown)?)?;
-    let sum = before.sum.wrapping_add(sum_at(&journal, ROOT));
-    Ok(Summed { sum, left, unknown })
-}
-
 // What each node heard.
 #[tactic(auto, using(am_lemmas::proofs::Numbered::lines_more))]
 fn heard(alloc: Global, nodes: u8, finished: &Finished) -> Result<Vec<Option<u64>>, NoMemory>
@@ -127,7 +98,7 @@ fn heard(alloc: Global, nodes: u8, finished: &Finished) -> Result<Vec<Option<u64
     let journal = finished.journal.logged(alloc)?;
     let mut notes = Vec::new(alloc);
     for node in 0..nodes {
-        notes.push(first_word_at(alloc, &journal, EndpointId(node + 1))?)?;
+        notes.push(first_word_at(&journal, EndpointId(node + 1)))?;
     }
     Ok(notes)
 }
@@ -149,23 +120,20 @@ pub fn reduce<R: Runner, T: Threads + Sync>(
     laws::sums_are_of_runs();
     laws::nothing_is_unknown();
     laws::what_ran_was_asked_for();
-    let mut summed = Summed {
-        sum: 0,
-        left: Vec::from_slice(alloc, numbers)?,
-        unknown: Vec::new(alloc),
-    };
+    let mut tally = Tally::begin(alloc, numbers)?;
     for _round in 0..4u8 {
-        if !summed.left.is_empty() {
+        if !tally.left.is_empty() {
             let mut draft = planned(alloc, nodes, plan)?;
-            ask(&mut draft, &summed.left)?;
+            ask(&mut draft, &tally.left)?;
             let finished = draft.run(runner, rt, alloc)?;
-            summed = after(alloc, &summed, &finished)?;
+            let journal = finished.journal.logged(alloc)?;
+            tally = tally.after(alloc, &journal, ROOT)?;
         }
     }
-    if !summed.left.is_empty() || !summed.unknown.is_empty() {
-        return Ok(Reduced::Open(summed));
+    if !tally.is_whole() {
+        return Ok(Reduced::Open(tally));
     }
-    let sum = summed.sum;
+    let sum = tally.sum;
     let mut draft = planned(alloc, nodes, plan)?;
     tell(&mut draft, nodes, sum)?;
     let finished = draft.run(runner, rt, alloc)?;
