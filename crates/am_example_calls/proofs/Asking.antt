@@ -1,18 +1,21 @@
 -- What a round asks for, call by call.
-use Rattle.std.proofs.Common.{◌≡◌, ℕ, zero, suc, ◌+◌, ◌<◌, ◌≤◌, Bool, true, false, List, [], ◌∷◌, ◌++◌, refl, sym, ap, ◌∙◌, subst, ⊎_elim, length, arith}
+use Rattle.std.proofs.Common.{◌≡◌, ℕ, zero, suc, ◌+◌, ◌<◌, ◌≤◌, Bool, true, false, List, [], ◌∷◌, ◌++◌, refl, sym, ap, ◌∙◌, subst, ◌⊎◌, ⊎_elim, length, arith}
+use Rattle.std.specs.Prelude.{OnOk, Result}
 use Rattle.std.specs.List.{Contains, list_all}
 use Rattle.std.proofs.lemmas.Bool.{cases_lt}
 use Rattle.std.proofs.lemmas.List.{append-nil}
 use Rattle.std.proofs.lemmas.List.Elements.{Contains-append_cases, Contains-append_left, Contains-append_right, Contains-push}
+use Rattle.std.proofs.lemmas.Result.{on_ok_weaker}
 use Rattle.am_names.specs.declared.EndpointId.{EndpointId}
-use Rattle.am_names.specs.declared.NodeId.{NodeId}
 use Rattle.am_names.specs.declared.Tag.{Tag}
 use Rattle.am_names.specs.declared.Words.{Words}
 use Rattle.am_office_entries.specs.declared.Call.TheVariants as Calls
 use Rattle.am_office_entries.specs.declared.HandlerKind.TheVariants.{Echo}
+use Rattle.am_scenario_plan.specs.declared.plan.PlanLine.{PlanLine}
 use Rattle.am_scenario_types.specs.declared.parts.ScriptCall.{ScriptCall}
 use Rattle.am_scenario_types.specs.Lists.{ScenarioLists}
-use Rattle.am_library.specs.Drafts.{made, started, with_calls, with_end, with_setting, with_thread}
+use Rattle.am_library.specs.declared.draft.DraftFault.{DraftFault}
+use Rattle.am_library.specs.Drafts.{made, started, with_calls, with_nodes, with_plans, with_setting}
 use Rattle.am_library.specs.declared.draft.Setting.TheVariants as Set
 use Rattle.am_library.specs.Ends.{words_asked}
 use Rattle.am_library.specs.Laws.{ScriptsGrow, leads, leaves_echoing}
@@ -43,7 +46,7 @@ asks_calls grow s t calls echo lead is =
     })
 
 -- the client's request, the two polls of the server and the client's own
-pub asks_four : ScriptsGrow → (call : Words) (s t : ScenarioLists) (a b c d : ScriptCall) → t ≡ with_calls s (a ∷ b ∷ c ∷ d ∷ []) →
+asks_four : ScriptsGrow → (call : Words) (s t : ScenarioLists) (a b c d : ScriptCall) → t ≡ with_calls s (a ∷ b ∷ c ∷ d ∷ []) →
     a ≡ made 1 client (Calls.Request 0 1 call) → b ≡ made 0 server Calls.Poll → c ≡ made 0 server Calls.Poll → d ≡ made 1 client Calls.Poll →
     Asks (call ∷ []) s t
 asks_four grow call s t a b c d is first second third last =
@@ -51,43 +54,51 @@ asks_four grow call s t a b c d is first second third last =
     (made 1 client (Calls.Request 0 1 call) ∷ made 0 server Calls.Poll ∷ made 0 server Calls.Poll ∷ made 1 client Calls.Poll ∷ []) refl refl
     (is ∙ (λ i. with_calls s (first i ∷ second i ∷ third i ∷ last i ∷ [])))
 
+-- so where the calls may be refused, of a call that has no answer
+pub asks_call : ScriptsGrow → (call : Words) (answer : Answer) (s t : ScenarioLists) (a b c d : ScriptCall) (r : Result (Unit {0}) DraftFault) →
+    (answer ≡ Unheard) ⊎ (answer ≡ NeverRan) → OnOk r (t ≡ with_calls s (a ∷ b ∷ c ∷ d ∷ [])) → a ≡ made 1 client (Calls.Request 0 1 call) →
+    b ≡ made 0 server Calls.Poll → c ≡ made 0 server Calls.Poll → d ≡ made 1 client Calls.Poll → OnOk r (Asks (open_call call answer) s t)
+asks_call grow call answer s t a b c d r unheard is first second third last =
+    let asked : open_call call answer ≡ call ∷ [] =
+    ⊎_elim (λ (e : answer ≡ Unheard). ap (open_call call) e) (λ (e : answer ≡ NeverRan). ap (open_call call) e) unheard in
+    on_ok_weaker r (λ (so : t ≡ with_calls s (a ∷ b ∷ c ∷ d ∷ [])).
+    subst (λ (ws : List Words). Asks ws s t) (sym asked) (asks_four grow call s t a b c d so first second third last)) is
+
 -- nothing more
 pub asks_none_more : (s : ScenarioLists) → Asks [] s s
 asks_none_more s = record { asked = sym (append-nil (words_asked s.script)); serves = λ (serves : Serves s). serves; plan = refl }
 
 -- ---- the set-up
 
-pub is_set_up : (tries turns : ℕ) (one two : NodeId) (first second tag : Tag) (s r a b c d e t : ScenarioLists) (x y : ScriptCall) → s ≡ started 2 →
-    r ≡ with_setting s (Set.Tries tries) → a ≡ with_setting r (Set.Turns turns) → b ≡ with_end a one first → c ≡ with_end b two second → d ≡ with_thread c one →
-    e ≡ with_thread d two → t ≡ with_calls e (x ∷ y ∷ []) → x ≡ made 0 server (Calls.SetHandler 1 (Echo 1)) →
-    y ≡ made 1 client (Calls.Map 0 server tag 8) → IsSetUp t
-is_set_up tries turns one two first second tag s r a b c d e t x y is_s is_r is_a is_b is_c is_d is_e is_t is_x is_y =
+pub is_set_up : (tries turns nodes : ℕ) (tag other : Tag) (plan : List PlanLine) (s r a b p t : ScenarioLists) (x y : ScriptCall) → s ≡ started 2 →
+    r ≡ with_setting s (Set.Tries tries) → a ≡ with_setting r (Set.Turns turns) → b ≡ with_nodes a tag nodes → p ≡ with_plans b plan →
+    t ≡ with_calls p (x ∷ y ∷ []) → x ≡ made 0 server (Calls.SetHandler 1 (Echo 1)) → y ≡ made 1 client (Calls.Map 0 server other 8) → IsSetUp plan t
+is_set_up tries turns nodes tag other plan s r a b p t x y is_s is_r is_a is_b is_p is_t is_x is_y =
     let set : ScriptCall = made 0 server (Calls.SetHandler 1 (Echo 1)) in
-    let map' : ScriptCall = made 1 client (Calls.Map 0 server tag 8) in
-    let script : e.script ≡ [] =
-    ap (λ (u : ScenarioLists). u.script) is_e ∙ ap (λ (u : ScenarioLists). u.script) is_d ∙ ap (λ (u : ScenarioLists). u.script) is_c
-    ∙ ap (λ (u : ScenarioLists). u.script) is_b ∙ ap (λ (u : ScenarioLists). u.script) is_a ∙ ap (λ (u : ScenarioLists). u.script) is_r
-    ∙ ap (λ (u : ScenarioLists). u.script) is_s in
-    let plan : e.plan ≡ [] =
-    ap (λ (u : ScenarioLists). u.plan) is_e ∙ ap (λ (u : ScenarioLists). u.plan) is_d ∙ ap (λ (u : ScenarioLists). u.plan) is_c
-    ∙ ap (λ (u : ScenarioLists). u.plan) is_b ∙ ap (λ (u : ScenarioLists). u.plan) is_a ∙ ap (λ (u : ScenarioLists). u.plan) is_r
+    let map' : ScriptCall = made 1 client (Calls.Map 0 server other 8) in
+    let script : p.script ≡ [] =
+    ap (λ (u : ScenarioLists). u.script) is_p ∙ ap (λ (u : ScenarioLists). u.script) is_b ∙ ap (λ (u : ScenarioLists). u.script) is_a
+    ∙ ap (λ (u : ScenarioLists). u.script) is_r ∙ ap (λ (u : ScenarioLists). u.script) is_s in
+    let unplanned : b.plan ≡ [] =
+    ap (λ (u : ScenarioLists). u.plan) is_b ∙ ap (λ (u : ScenarioLists). u.plan) is_a ∙ ap (λ (u : ScenarioLists). u.plan) is_r
     ∙ ap (λ (u : ScenarioLists). u.plan) is_s in
-    subst IsSetUp (sym (is_t ∙ (λ i. with_calls e (is_x i ∷ is_y i ∷ []))))
+    subst (IsSetUp plan) (sym (is_t ∙ (λ i. with_calls p (is_x i ∷ is_y i ∷ []))))
     (record {
       serves = record {
         echoes = ap (λ (calls : List ScriptCall). list_all (leaves_echoing server) (calls ++ set ∷ map' ∷ [])) script;
         leads = ap (λ (calls : List ScriptCall). list_all (leads server) (calls ++ set ∷ map' ∷ [])) script;
       };
       asked = ap (λ (calls : List ScriptCall). words_asked (calls ++ set ∷ map' ∷ [])) script;
-      plan = plan;
+      plan' = ap (λ (u : ScenarioLists). u.plan) is_p ∙ ap (λ (lines : List PlanLine). lines ++ plan) unplanned;
     })
 
 -- ---- call after call
 
-pub asks_none : (arguments : List ℕ) (answers : List Answer) (s : ScenarioLists) → IsSetUp s → AsksFor arguments answers 0 s
-asks_none arguments answers s is = record {
+pub asks_none : (arguments : List ℕ) (answers : List Answer) (plan : List PlanLine) (s : ScenarioLists) → IsSetUp plan s →
+    AsksFor arguments answers plan 0 s
+asks_none arguments answers plan s is = record {
   serves = is.serves;
-  plan = is.plan;
+  plan' = is.plan';
   calls = λ (words : Words) (has : Contains (words_asked s.script) words). absurd (nothing words (subst (λ (l : List Words). Contains l words) is.asked has));
   open' = λ (token : ℕ) (below : token < 0) (unheard : is_heard (answer_at answers token) ≡ false). absurd (omega arith);
 }
@@ -109,12 +120,13 @@ opens call (Heard words) is = absurd (cc)
 opens call Unheard is = Contains-push [] call
 opens call NeverRan is = Contains-push [] call
 
-pub asks_more : (arguments : List ℕ) (answers : List Answer) (count : ℕ) (s t : ScenarioLists) → count < length arguments → AsksFor arguments answers count s →
-    Asks (open_call (call_at arguments count) (answer_at answers count)) s t → AsksFor arguments answers (count + 1) t
-asks_more arguments answers count s t below so_far asks =
+pub asks_more : (arguments : List ℕ) (answers : List Answer) (plan : List PlanLine) (count : ℕ) (s t : ScenarioLists) → count < length arguments →
+    AsksFor arguments answers plan count s → Asks (open_call (call_at arguments count) (answer_at answers count)) s t →
+    AsksFor arguments answers plan (count + 1) t
+asks_more arguments answers plan count s t below so_far asks =
     let opened : List Words = open_call (call_at arguments count) (answer_at answers count) in record {
       serves = asks.serves so_far.serves;
-      plan = asks.plan ∙ so_far.plan;
+      plan' = asks.plan ∙ so_far.plan';
       calls = λ (words : Words) (has : Contains (words_asked t.script) words).
           ⊎_elim (λ (old : Contains (words_asked s.script) words). so_far.calls words old)
           (λ (now : Contains opened words). (count, below, is_opened (call_at arguments count) words (answer_at answers count) now))

@@ -8,11 +8,15 @@ use Rattle.std.proofs.lemmas.List.{get_or-set_same, get_or-set_other, length-set
 use Rattle.std.proofs.lemmas.List.Elements.{Contains-append_cases, Contains-append_left, Contains-append_right, Contains-push}
 use Rattle.am_names.specs.declared.Message.{Message}
 use Rattle.am_office_entries.specs.declared.Entry.{Entry}
-use Rattle.am_library.specs.Views.{reply_to}
+use Rattle.am_library.specs.Views.{reply_to, with_reply}
 use Rattle.am_library.proofs.Distinct.{only_one}
 use Rattle.am_example_calls.specs.declared.answers.Answer.{Answer}
 use Rattle.am_example_calls.specs.declared.answers.Answer.TheVariants.{Heard, Unheard, NeverRan}
 use Rattle.am_example_calls.specs.Answers.{after_run, answer_at, is_heard, noted}
+
+-- after the run of a request in a journal
+abbrev pub noted_in : List Entry → List Answer → Message → List Answer
+noted_in journal answers m = noted answers (with_reply journal m)
 
 -- no run with this token had a reply
 abbrev pub AllUnanswered : List Entry → List Message → ℕ → Type 0
@@ -97,35 +101,35 @@ none_said journal token a = by_heard (is_heard a) refl
     by_heard false is = Still is (λ (n : Message) (has : Contains [] n) (at : n.words.a ≡ token). nothing n has) refl
 
 pub next : (journal : List Entry) (runs : List Message) (token : ℕ) (answers : List Answer) → token < length answers →
-    Next journal runs token (answer_at answers token) (answer_at (fold (noted journal) answers runs) token)
+    Next journal runs token (answer_at answers token) (answer_at (fold (noted_in journal) answers runs) token)
 next journal [] token answers below = none_said journal token (answer_at answers token)
 next journal (m ∷ ms) token answers below =
     by_token (m.words.a == token) refl
-    (next journal ms token (noted journal answers m)
+    (next journal ms token (noted_in journal answers m)
     (subst (λ (n : ℕ). token < n) (sym (length-set answers m.words.a (after_run (answer_at answers m.words.a) (reply_to journal m.serial)))) below))
   where
     by_token : (b : Bool) → (m.words.a == token) ≡ b →
-        Next journal ms token (answer_at (noted journal answers m) token) (answer_at (fold (noted journal) (noted journal answers m) ms) token) →
-        Next journal (m ∷ ms) token (answer_at answers token) (answer_at (fold (noted journal) (noted journal answers m) ms) token)
+        Next journal ms token (answer_at (noted_in journal answers m) token) (answer_at (fold (noted_in journal) (noted_in journal answers m) ms) token) →
+        Next journal (m ∷ ms) token (answer_at answers token) (answer_at (fold (noted_in journal) (noted_in journal answers m) ms) token)
     by_token true is rest =
         let at : m.words.a ≡ token = eqb-true m.words.a token is in
-        let now : answer_at (noted journal answers m) token ≡ after_run (answer_at answers token) (reply_to journal m.serial) =
-        subst (λ (k : ℕ). answer_at (noted journal answers m) k ≡ after_run (answer_at answers k) (reply_to journal m.serial)) at
+        let now : answer_at (noted_in journal answers m) token ≡ after_run (answer_at answers token) (reply_to journal m.serial) =
+        subst (λ (k : ℕ). answer_at (noted_in journal answers m) k ≡ after_run (answer_at answers k) (reply_to journal m.serial)) at
         (get_or-set_same answers m.words.a (after_run (answer_at answers m.words.a) (reply_to journal m.serial)) NeverRan
         (subst (λ (k : ℕ). k < length answers) (sym at) below)) in
-        own_run journal m ms token (answer_at answers token) (answer_at (fold (noted journal) (noted journal answers m) ms) token)
+        own_run journal m ms token (answer_at answers token) (answer_at (fold (noted_in journal) (noted_in journal answers m) ms) token)
         (reply_to journal m.serial) at refl
-        (subst (λ (a : Answer). Next journal ms token a (answer_at (fold (noted journal) (noted journal answers m) ms) token)) now rest)
+        (subst (λ (a : Answer). Next journal ms token a (answer_at (fold (noted_in journal) (noted_in journal answers m) ms) token)) now rest)
     by_token false is rest =
         let other : m.words.a ≢ token = eqb-false m.words.a token is in
-        let same : answer_at (noted journal answers m) token ≡ answer_at answers token =
+        let same : answer_at (noted_in journal answers m) token ≡ answer_at answers token =
         get_or-set_other answers m.words.a token (after_run (answer_at answers m.words.a) (reply_to journal m.serial)) NeverRan
         (λ (e : token ≡ m.words.a). other (sym e)) in
-        other_run journal m ms token (answer_at answers token) (answer_at (fold (noted journal) (noted journal answers m) ms) token) other
-        (subst (λ (a : Answer). Next journal ms token a (answer_at (fold (noted journal) (noted journal answers m) ms) token)) same rest)
+        other_run journal m ms token (answer_at answers token) (answer_at (fold (noted_in journal) (noted_in journal answers m) ms) token) other
+        (subst (λ (a : Answer). Next journal ms token a (answer_at (fold (noted_in journal) (noted_in journal answers m) ms) token)) same rest)
 
-pub length_noted : (journal : List Entry) (runs : List Message) (answers : List Answer) → length (fold (noted journal) answers runs) ≡ length answers
+pub length_noted : (journal : List Entry) (runs : List Message) (answers : List Answer) → length (fold (noted_in journal) answers runs) ≡ length answers
 length_noted journal [] answers = refl
 length_noted journal (m ∷ ms) answers =
-    length_noted journal ms (noted journal answers m)
+    length_noted journal ms (noted_in journal answers m)
     ∙ length-set answers m.words.a (after_run (answer_at answers m.words.a) (reply_to journal m.serial))

@@ -1,8 +1,7 @@
 -- What is known of each call, run by run.
 use Rattle.std.specs.Prelude.{ℕ, Bool, true, false, Option, Some, None, List, slice_index_or, slice_set}
 use Rattle.am_names.specs.declared.Message.{Message}
-use Rattle.am_office_entries.specs.declared.Entry.{Entry}
-use Rattle.am_library.specs.Views.{reply_to}
+use Rattle.am_library.specs.declared.runs.Run.{Run}
 use Rattle.am_example_calls.specs.declared.answers.Answer.{Answer}
 use Rattle.am_example_calls.specs.declared.answers.Answer.TheVariants.{Heard, Unheard, NeverRan}
 
@@ -29,6 +28,5 @@ after_run Unheard None = Unheard
 after_run NeverRan None = Unheard
 
 -- after one run, whose first word is the token
-abbrev pub noted : List Entry → List Answer → Message → List Answer
-noted journal answers run =
-    slice_set answers run.words.a (after_run (answer_at answers run.words.a) (reply_to journal run.serial))
+abbrev pub noted : List Answer → Run → List Answer
+noted answers run = slice_set answers run.request.words.a (after_run (answer_at answers run.request.words.a) run.reply)

@@ -7,10 +7,8 @@ ghost use Rattle.std.specs.Prelude.{◌≡◌, count_by};
 ghost use Rattle.am_example_calls.specs.Answers.{has_run};
 
 mod answers;
-mod rounds;
 
-use crate::answers::Answer;
-use crate::rounds::answers_to;
+use crate::answers::{Answer, answers_to};
 use am_library::{BySeed, DrainAlone};
 use am_names::NodeId;
 use am_scenario_types::{LinkFault, PlanLine};

@@ -35,7 +35,7 @@ fn each_request_has_its_fate_and_reply(rt: HostRuntime) -> Result<(), Fail> {
     assert!(rt; account.fate_of(request(4)).is_none());
     assert!(rt; reply_words(&account, 2) == Some(words(7)));
     assert!(rt; reply_words(&account, 3).is_none());
-    assert!(rt; first_word_at(rt.alloc(), &journal, SERVER)? == Some(3));
+    assert!(rt; first_word_at(&journal, SERVER) == Some(3));
     Ok(())
 }
 

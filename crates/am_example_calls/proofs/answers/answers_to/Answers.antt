@@ -1,6 +1,6 @@
 use Rattle.std.proofs.Common.{rules, ◌≡◌, length}
-use Rattle.am_example_calls.proofs.Answering.{Laws, round_added}
-use Rattle.am_example_calls.proofs.rounds.answers_to.Goals as goal
+use Rattle.am_example_calls.proofs.Answering.{HasNoted, Laws, heard, none_answered, round_added}
+use Rattle.am_example_calls.proofs.answers.answers_to.Goals as goal
 
 pub loop-plan-preserved : goal.loop-plan-preserved
 loop-plan-preserved g c =
@@ -13,7 +13,11 @@ loop-plan-preserved g c =
       ran = c.what_ran_was_asked_for.ensures;
     } in
     let many : length c.loop-plan.answers.items ≡ c.loop-plan.answers.len = search rules in
+    let told : HasNoted c.ask_all.new.draft c.deref_mut.result.now c.hear.new.answers =
+    heard c.ask_all.new.draft c.in_ok-finished.finished.journal c.in_ok-journal.journal c.in_ok-runs.runs.items c.deref-in-loop-plan-2.result.now
+    c.deref_mut.result.now c.hear.new.answers c.in_ok-finished.ensures.run c.in_ok-journal.ensures c.in_ok-runs.ensures c.deref-in-loop-plan-2.ensures.value
+    c.hear.ensures in
     round_added laws c.args.arguments.now c.args.plans.now c.loop-plan.plan-index c.plan-item.result c.loop-plan.answers.len c.loop-plan.answers.items
-    c.deref.result.now c.deref_mut.result.now c.run_round.new.answers c.deref-in-loop-plan.result.now c.draw_up.new.draft c.loop-plan-test.true
-    c.plan-item.is many c.deref.ensures.value c.deref-in-loop-plan.ensures.value c.deref_mut.ensures.value c.in_ok-draw_up.ensures
-    c.in_ok-run_round.ensures c.loop-plan.invariant
+    c.deref-in-loop-plan.result.now c.deref_mut.result.now c.hear.new.answers c.deref.result.now c.ask_all.new.draft c.loop-plan-test.true
+    c.plan-item.is many c.deref-in-loop-plan.ensures.value c.deref.ensures.value c.deref_mut.ensures.value
+    (c.in_ok-ask_all.ensures c.deref.result.now c.in_ok-draft.ensures) told c.loop-plan.invariant
