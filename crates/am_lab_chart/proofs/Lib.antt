@@ -4,5 +4,6 @@ pub mod Lines
 pub mod Titled
 pub mod Quiet
 pub mod Read
+pub mod Spelled
 mod Each
 mod Explained

@@ -22,7 +22,7 @@ use Rattle.am_lab_chart.specs.declared.tables.TheConstants.{STYLE}
 use Rattle.am_lab_xml.specs.Escaped.{is_text}
 use Rattle.am_lab_picture.specs.Layout.Layout.{band_left, band_width, has_interfaces, has_text, height, left_of, top, width, x_of_end, x_of_interface, y_of}
 use Rattle.am_lab_picture.specs.Layout.Words.{class_of, fate_class, fate_sign, frame_of, place_class}
-use Rattle.am_lab_chart.specs.Captions.{Word, joined, sign_at}
+use Rattle.am_lab_chart.specs.Captions.{Word, caption, holding, joined, sign_at}
 use Rattle.am_lab_picture.specs.Layout.Signs.{ending_sign, inner_of, label_of, sign_of, spot_of}
 use Rattle.am_lab_chart.specs.Bars.{amount, bar, bar_title, frame_caption, frame_part, has_room, lane_bars, level_title, level_width, place_name, place_title, received}
 use Rattle.am_lab_chart.specs.Bars.{records, stretch}
@@ -41,6 +41,7 @@ use Rattle.am_lab_chart.proofs.Titled.{Has, Holds, a_title, both, break, choice,
 use Rattle.am_lab_chart.proofs.Lines.{AreTexts, a_number, line_is_text, more, none, number_is_text, serial_is_text, tag_is_text}
 
 sign : (s : List ℕ) (x y : ℕ) (class : List ℕ) → Has [] (sign_at s x y class)
+unfolding sign_at
 sign s x y class = record { sound = refl; plain = refl; led = refl; titles' = refl; rows' = refl }
 
 -- ---- bars
@@ -60,7 +61,7 @@ unfolding stretch
 box p class x wide from until told h = under_title (codes "rect") _ told [] refl refl refl h
 
 frame_text : (p : PictureLists) (x from frame : ℕ) → Has [] (frame_caption p x from frame)
-unfolding frame_caption
+unfolding frame_caption caption holding
 frame_text p x from frame = record { sound = refl; plain = refl; led = refl; titles' = refl; rows' = refl }
 
 frame : (p : PictureLists) (x from until : ℕ) (f : Option ℕ) → Has [] (frame_part p x from until f)
@@ -147,11 +148,11 @@ own_title : (row : Row) → Has (printed row.entry ∷ []) (row_title row)
 own_title row = a_title (printed row.entry) (line_is_text row.entry)
 
 number_text : (y line : ℕ) → Has [] (line_number y line)
-unfolding line_number
+unfolding line_number caption holding
 number_text y line = record { sound = refl; plain = refl; led = refl; titles' = refl; rows' = refl }
 
 own_text : (y : ℕ) (row : Row) → Has [] (line_text y row)
-unfolding line_text
+unfolding line_text holding
 own_text y row = record { sound = refl; plain = refl; led = refl; titles' = refl; rows' = refl }
 
 row_texts : (p : PictureLists) (y line : ℕ) (row : Row) → Has [] (texts_of p y line row)
@@ -172,7 +173,7 @@ row_link p left x y about None = nothing
 row_link p left x y about (Some to) = both _ _ (a_line x _ y about to) (sign (ending_sign to.ending) _ y (class_of about))
 
 sign_text : (x y : ℕ) (text : List ℕ) → Has [] (inner_text x y text)
-unfolding inner_text
+unfolding inner_text caption holding
 sign_text x y text = record { sound = refl; plain = refl; led = refl; titles' = refl; rows' = refl }
 
 row_inner : (p : PictureLists) (x y : ℕ) (text : Option (List ℕ)) → Has [] (inner p x y text)
@@ -180,7 +181,7 @@ row_inner p x y None = nothing
 row_inner p x y (Some text) = choice (has_text p) (inner_text x y text) Contents.Nothing (sign_text x y text) nothing
 
 beside_text : (p : PictureLists) (left x y : ℕ) (about : Option Message) (to : Option Link) (text : List ℕ) → Has [] (label_text p left x y about to text)
-unfolding label_at
+unfolding label_at caption holding
 beside_text p left x y about to text = record { sound = refl; plain = refl; led = refl; titles' = refl; rows' = refl }
 
 row_label : (p : PictureLists) (left x y : ℕ) (about : Option Message) (to : Option Link) (text : Option (List ℕ)) → Has [] (label p left x y about to text)
@@ -202,6 +203,7 @@ head_has p y line row = both _ _ (own_title row) (both _ _ (row_fate p y row.abo
 -- an element that is a row
 a_row : {t : List Word} (row : Row) (more rest : Content) → Has t (Contents.Both (Contents.Both (row_title row) more) rest) →
     Holds (printed row.entry ∷ []) t (Contents.Element (codes "g") [] (Contents.Both (Contents.Both (row_title row) more) rest))
+unfolding holding
 a_row row more rest h =
     record {
       sound = rw h.sound refl;
@@ -223,6 +225,7 @@ row_has p left line row =
 -- ---- lanes
 
 words_have : (class : Word) (x y : ℕ) (size : Word) (told words : List Word) → AreTexts told → Has (joined told ∷ []) (head class x y size told words)
+unfolding head
 words_have class x y size told words h = under_title (codes "text") _ told words refl refl refl h
 
 one_more : (n : ℕ) (t : Word) → replicate n t ++ t ∷ [] ≡ t ∷ replicate n t
@@ -282,6 +285,7 @@ nodes_have p left (suc node) = both _ _ (nodes_have p left node) (both _ _ (band
 -- ---- what is the same in every picture
 
 style_has : (rules : List ℕ) → Has [] (style rules)
+unfolding holding
 style_has rules = record { sound = refl; plain = refl; led = refl; titles' = refl; rows' = refl }
 
 shape_has : (scaled : List ℕ) (s : Drawn) → Has [] (shape scaled s)
@@ -293,7 +297,7 @@ unfolding arrow_head head_attributes
 arrow_words_have h = record { sound = refl; plain = refl; led = refl; titles' = refl; rows' = refl }
 
 meaning_has : (x y : ℕ) (m : Explained) → Has [] (meaning x y m)
-unfolding meaning
+unfolding meaning caption holding
 meaning_has x y m = record { sound = refl; plain = refl; led = refl; titles' = refl; rows' = refl }
 
 meanings_have : (p : PictureLists) (x y : ℕ) (ms : List Explained) → Has [] (meanings p x y ms)
@@ -303,6 +307,7 @@ meanings_have p x y (m ∷ ms) =
     (both _ _ (meaning_has x y m) (meanings_have p (x + m.width) y ms)) (meanings_have p x y ms)
 
 description_has : (summary : List ℕ) → Has [] (description summary)
+unfolding holding
 description_has summary = record { sound = refl; plain = refl; led = refl; titles' = refl; rows' = refl }
 
 page_has : (wide high : ℕ) → Has [] (page wide high)
@@ -323,6 +328,7 @@ unfolding front
 front_has p = both _ _ (description_has p.summary) (both _ _ (style_has STYLE.now) (definitions_have p))
 
 totals_have : (summary : List ℕ) → Has [] (totals summary)
+unfolding holding
 totals_have summary = record { sound = refl; plain = refl; led = refl; titles' = refl; rows' = refl }
 
 legend_has : (p : PictureLists) → Has [] (legend p)

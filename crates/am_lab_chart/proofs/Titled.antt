@@ -1,6 +1,6 @@
 -- Contents that are sound, and the titles that they hold.
 use Rattle.std.proofs.Common.{◌≡◌, ℕ, ◌+◌, Bool, true, false, ◌&&◌, List, [], ◌∷◌, ◌++◌, codes, flat_map, map, refl, if◌then◌else◌}
-use Rattle.am_lab_chart.specs.Captions.{joined, title, titled}
+use Rattle.am_lab_chart.specs.Captions.{holding, joined, title, titled}
 use Rattle.am_lab_chart.proofs.Lines.{AreTexts, joined_is_text}
 use Rattle.am_lab_xml.specs.Escaped.{is_text}
 use Rattle.am_lab_xml.specs.Reading.{are_led, are_texts, first_texts, is_bare, texts}
@@ -58,11 +58,13 @@ pub a_text : (t : List ℕ) → Has [] (Contents.Text t)
 a_text t = record { sound = refl; plain = refl; led = refl; titles' = refl; rows' = refl }
 
 pub a_title : (t : List ℕ) → is_text t ≡ true → Has (t ∷ []) (title t)
+unfolding holding
 a_title t h = record { sound = refl; plain = h; led = refl; titles' = refl; rows' = refl }
 
 -- an element under a title
 pub under_title : (name : List ℕ) (given : List Named) (told words : List (List ℕ)) → (is_name name && are_names (map name_of given)) ≡ true →
     is_bare (codes "title") name given ≡ false → is_bare (codes "g") name given ≡ false → AreTexts told → Has (joined told ∷ []) (titled name given told words)
+unfolding titled
 under_title name given told words names other no_row h =
     element name given (Contents.Both (title (joined told)) (Contents.Text (joined words))) names other no_row
     (both (title (joined told)) (Contents.Text (joined words)) (a_title (joined told) (joined_is_text told h)) (a_text (joined words)))

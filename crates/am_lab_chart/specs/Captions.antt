@@ -19,7 +19,7 @@ abbrev pub joined : List Word → Word
 joined words = flat_map (λ (w : Word). w) words
 
 -- an element with these attributes, which holds a text
-abbrev pub holding : Word → List Named → Word → Content
+unfoldable pub holding : Word → List Named → Word → Content
 holding name given text = Contents.Element name given (Contents.Text text)
 
 -- what whoever points at an element is told
@@ -27,14 +27,14 @@ abbrev pub title : Word → Content
 title text = holding (codes "title") [] text
 
 -- a text element with these attributes and words
-abbrev pub caption : List Named → List Word → Content
+unfoldable pub caption : List Named → List Word → Content
 caption given words = holding (codes "text") given (joined words)
 
 -- an element with these attributes and this title, which holds words
-abbrev pub titled : Word → List Named → List Word → List Word → Content
+unfoldable pub titled : Word → List Named → List Word → List Word → Content
 titled name given told words = Contents.Element name given (Contents.Both (title (joined told)) (Contents.Text (joined words)))
 
 -- a sign at a place, in the colour of a class
-abbrev pub sign_at : Word → ℕ → ℕ → Word → Content
+unfoldable pub sign_at : Word → ℕ → ℕ → Word → Content
 sign_at sign x y class =
     Contents.Empty (codes "use") (word (codes "href") sign ∷ number (codes "x") x ∷ number (codes "y") y ∷ word (codes "class") class ∷ [])

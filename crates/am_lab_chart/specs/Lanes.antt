@@ -10,7 +10,7 @@ use Rattle.am_lab_picture.specs.Layout.Layout.{band_left, band_width, bottom, ha
 use Rattle.am_lab_chart.specs.Captions.{Word, number, titled, word}
 
 -- words in the middle of a lane or a band
-abbrev pub head : Word → ℕ → ℕ → Word → List Word → List Word → Content
+unfoldable pub head : Word → ℕ → ℕ → Word → List Word → List Word → Content
 head class x y size told words =
     titled (codes "text") (number (codes "x") x ∷ number (codes "y") y ∷ word (codes "class") class ∷ word (codes "font-size") size ∷ []) told words
 

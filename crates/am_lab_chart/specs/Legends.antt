@@ -3,9 +3,9 @@ use Rattle.std.specs.Prelude.{ℕ, ◌+◌, List, [], ◌∷◌, codes, if◌the
 use Rattle.am_lab_picture.specs.Data.{PictureLists}
 use Rattle.am_lab_xml.specs.Trees.{Content, Named}
 use Rattle.am_lab_xml.specs.Trees.{Content as Contents}
-use Rattle.am_lab_chart.specs.declared.legends.Head.{Head}
+use Rattle.am_lab_chart.specs.declared.legends.Explanation.{Explanation}
 use Rattle.am_lab_chart.specs.declared.legends.Meaning.{Meaning}
-use Rattle.am_lab_chart.specs.declared.legends.Shape.{Shape}
+use Rattle.am_lab_chart.specs.declared.legends.Meaning.TheVariants as Meanings
 use Rattle.am_lab_chart.specs.Captions.{caption, holding, number, word}
 use Rattle.am_lab_chart.specs.Known.{occurs}
 
@@ -28,14 +28,19 @@ pub record Explained : Type 0 where
   pub width : ℕ
   pub text : List ℕ
 
-abbrev pub drawn_as : Shape → Drawn
-drawn_as s = record { id = s.id.now; area = s.area.now; edge = s.edge.now }
+abbrev pub explained_as : Explanation → Explained
+explained_as e = record { key = e.key.now; sign = e.sign.now; class = e.class.now; dashes = e.dashes.now; width = e.width; text = e.text.now }
 
-abbrev pub headed_as : Head → Headed
-headed_as h = record { id = h.id.now; class = h.class.now }
-
-abbrev pub explained_as : Meaning → Explained
-explained_as m = record { key = m.key.now; sign = m.sign.now; class = m.class.now; dashes = m.dashes.now; width = m.width; text = m.text.now }
+-- what a sign of the legend stands for in the program
+abbrev pub meant_by : Meaning → Explained
+meant_by (Meanings.Fate class sign width text) =
+    record { key = class.now; sign = sign.now; class = class.now; dashes = codes "none"; width = width; text = text.now }
+meant_by (Meanings.Bar class width text) =
+    record { key = class.now; sign = codes "#box"; class = class.now; dashes = codes "none"; width = width; text = text.now }
+meant_by (Meanings.Sign sign width text) =
+    record { key = sign.now; sign = sign.now; class = codes "plain"; dashes = codes "none"; width = width; text = text.now }
+meant_by (Meanings.Way dashes width text) =
+    record { key = dashes.now; sign = codes "#way"; class = codes "plain"; dashes = dashes.now; width = width; text = text.now }
 
 abbrev pub style : List ℕ → Content
 style rules = holding (codes "style") [] rules

@@ -6,5 +6,6 @@ pub mod Lanes
 pub mod Known
 pub mod Legends
 pub mod Tables
+pub mod Shapes
 pub mod Drawing
 pub mod Titles

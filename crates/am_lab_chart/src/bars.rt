@@ -93,33 +93,8 @@ fn has_room(picture: &Picture, from: u32, until: u32) -> bool
     has_text(picture) && y_of(picture, from) + 14 <= y_of(picture, until)
 }
 
-#[tactic(auto, unfolding(crate::specs::Bars::frame_caption))]
-fn put_frame_caption(
-    out: &mut Vec<u8>,
-    alloc: Global,
-    picture: &Picture,
-    x: u64,
-    from: u32,
-    frame: u8,
-) -> Result<(), AllocError>
-    requires drawable { IsDrawable picture.now }
-    requires narrow { x ≤ 60000 }
-    ensures { OnOk result (out.new.items ≡ out.old.items ++ printed (bars.frame_caption picture.now x from frame)) }
-{
-    let y = y_of(picture, from) + 11;
-    put_caption(
-        out,
-        alloc,
-        &[
-            Number("x", x + 33),
-            Number("y", y),
-            Word("class", "in-frame"),
-        ],
-        &[small(frame)],
-    )
-}
-
 // Appends the number of the frame that an endpoint holds, if it holds one and there is room.
+#[tactic(auto, unfolding(crate::specs::Bars::frame_caption, crate::specs::Captions::caption, crate::specs::Captions::holding))]
 fn put_frame(
     out: &mut Vec<u8>,
     alloc: Global,
@@ -133,16 +108,18 @@ fn put_frame(
     requires narrow { x ≤ 60000 }
     ensures { OnOk result (out.new.items ≡ out.old.items ++ printed (bars.frame_part picture.now x from until frame)) }
 {
-    match frame {
-        None => Ok(()),
-        Some(frame) => {
-            if has_room(picture, from, until) {
-                put_frame_caption(out, alloc, picture, x, from, frame)
-            } else {
-                Ok(())
-            }
-        }
+    let Some(frame) = frame else {
+        return Ok(());
+    };
+    if !has_room(picture, from, until) {
+        return Ok(());
     }
+    let given = [
+        Number("x", x + 33),
+        Number("y", y_of(picture, from) + 11),
+        Word("class", "in-frame"),
+    ];
+    put_caption(out, alloc, &given, &[small(frame)])
 }
 
 #[tactic(auto, using(std::proofs::Common::append_assoc), unfolding(crate::specs::Bars::bar))]

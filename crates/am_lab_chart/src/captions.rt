@@ -32,7 +32,7 @@ fn put_words(out: &mut Vec<u8>, alloc: Global, words: &[LinePiece]) -> Result<()
 }
 
 /// Appends an element with these attributes, which holds a text.
-#[tactic(auto, using(std::proofs::Common::append_assoc))]
+#[tactic(auto, using(std::proofs::Common::append_assoc), unfolding(crate::specs::Captions::holding))]
 pub(crate) fn put_holding(
     out: &mut Vec<u8>,
     name: &str,
@@ -47,6 +47,7 @@ pub(crate) fn put_holding(
 }
 
 /// Appends a text element with these attributes and words.
+#[tactic(auto, unfolding(crate::specs::Captions::caption))]
 pub(crate) fn put_caption(
     out: &mut Vec<u8>,
     alloc: Global,
@@ -67,7 +68,7 @@ fn put_title(out: &mut Vec<u8>, alloc: Global, words: &[LinePiece]) -> Result<()
 }
 
 /// Appends an element with these attributes and this title, which holds words.
-#[tactic(auto, using(std::proofs::Common::append_assoc))]
+#[tactic(auto, using(std::proofs::Common::append_assoc), unfolding(crate::specs::Captions::titled))]
 pub(crate) fn put_titled(
     out: &mut Vec<u8>,
     alloc: Global,
@@ -85,6 +86,7 @@ pub(crate) fn put_titled(
 }
 
 /// Appends a sign at a place, in the colour of a class.
+#[tactic(auto, unfolding(crate::specs::Captions::sign_at))]
 pub(crate) fn put_sign(
     out: &mut Vec<u8>,
     sign: &'static str,

@@ -14,10 +14,10 @@ use crate::bars::put_bars;
 use crate::captions::put_holding;
 use crate::lanes::{put_end_heads, put_nodes};
 use crate::rows::{line_of, put_rows};
+use crate::shapes::put_definitions;
 use crate::tables::{
-    STYLE, put_bar_meanings, put_call_meanings, put_call_shapes, put_ending_shapes,
-    put_event_meanings, put_event_shapes, put_fate_meanings, put_fate_shapes, put_heads,
-    put_legend_shapes, put_way_meanings,
+    STYLE, put_bar_meanings, put_call_meanings, put_event_meanings, put_fate_meanings,
+    put_way_meanings,
 };
 use crate::ways::{put_arrows, put_crosses};
 use am_lab_picture::layout::{bottom, has_text, width};
@@ -27,43 +27,11 @@ use am_lab_xml::{Point, put_break, put_close, put_empty, put_open};
 use am_names::NoMemory;
 use std::alloc::{AllocError, Global};
 
-#[tactic(auto, unfolding(crate::specs::Drawing::scale))]
-fn scale(picture: &Picture) -> &'static str
-    ensures { result.now ≡ drawing.scale picture.now }
-{
-    if has_text(picture) {
-        "scale(1)"
-    } else {
-        "scale(.4)"
-    }
-}
-
 #[tactic(auto, unfolding(crate::specs::Drawing::size_class))]
 fn size_class(picture: &Picture) -> &'static str
     ensures { result.now ≡ drawing.size_class picture.now }
 {
     if has_text(picture) { "large" } else { "small" }
-}
-
-#[tactic(auto, using(std::proofs::Common::append_assoc), unfolding(crate::specs::Drawing::shapes))]
-fn put_all_shapes(out: &mut Vec<u8>, scale: &'static str) -> Result<(), AllocError>
-    ensures { OnOk result (out.new.items ≡ out.old.items ++ printed (drawing.shapes scale.now)) }
-{
-    put_call_shapes(out, scale)?;
-    put_event_shapes(out, scale)?;
-    put_ending_shapes(out, scale)?;
-    put_fate_shapes(out, scale)?;
-    put_legend_shapes(out, scale)
-}
-
-#[tactic(auto, using(std::proofs::Common::append_assoc), unfolding(crate::specs::Drawing::definitions))]
-fn put_definitions(out: &mut Vec<u8>, picture: &Picture) -> Result<(), AllocError>
-    ensures { OnOk result (out.new.items ≡ out.old.items ++ printed (drawing.definitions picture.now)) }
-{
-    put_open(out, "defs", &[])?;
-    put_all_shapes(out, scale(picture))?;
-    put_heads(out)?;
-    put_close(out, "defs")
 }
 
 #[tactic(auto, unfolding(crate::specs::Drawing::page))]
@@ -245,8 +213,8 @@ fn text_of(alloc: Global, picture: &Picture) -> Result<Vec<u8>, NoMemory>
     requires { IsDrawable picture.now }
     ensures { IfOk result (λ text. text.items ≡ drawing.svg_of picture.now) }
 {
-    let mut out = Vec::new(alloc);
     let left = left_edge(alloc, picture)?;
+    let mut out = Vec::new(alloc);
     put_drawing(&mut out, alloc, picture, left)?;
     put_break(&mut out)?;
     Ok(out)

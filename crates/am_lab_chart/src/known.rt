@@ -27,29 +27,11 @@ fn is_in_row(key: &str, row: &Row) -> bool
         || link_sign(link_of(event, outcome)) == key
 }
 
-fn is_in_arrow(key: &str, arrow: &Arrow) -> bool
-    ensures { result ≡ known.is_in_arrow key.now arrow.now }
-{
-    packet_dashes(arrow.packet) == key
-}
-
-fn is_in_cross(key: &str, cross: &Cross) -> bool
-    ensures { result ≡ known.is_in_cross key.now cross.now }
-{
-    packet_dashes(cross.packet) == key || "#lost-left" == key
-}
-
-fn is_at(key: &str, span: &Span<Residency>) -> bool
-    ensures { result ≡ known.is_at key.now span.now }
-{
-    place_class(span.value) == key
-}
-
 fn is_at_some(key: &str, spans: &[Span<Residency>]) -> bool
     ensures { result ≡ list_any (known.is_at key.now) spans.now }
 {
     for span in spans {
-        if is_at(key, span) {
+        if place_class(span.value) == key {
             return true;
         }
     }
@@ -96,7 +78,7 @@ fn is_in_arrows(key: &str, arrows: &[Arrow]) -> bool
     ensures { result ≡ list_any (known.is_in_arrow key.now) arrows.now }
 {
     for arrow in arrows {
-        if is_in_arrow(key, arrow) {
+        if packet_dashes(arrow.packet) == key {
             return true;
         }
     }
@@ -107,7 +89,7 @@ fn is_in_crosses(key: &str, crosses: &[Cross]) -> bool
     ensures { result ≡ list_any (known.is_in_cross key.now) crosses.now }
 {
     for cross in crosses {
-        if is_in_cross(key, cross) {
+        if packet_dashes(cross.packet) == key || "#lost-left" == key {
             return true;
         }
     }

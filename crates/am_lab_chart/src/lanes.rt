@@ -18,6 +18,7 @@ use am_office_text::{LinePiece, small};
 use std::alloc::{AllocError, Global};
 
 // Appends words in the middle of a lane or a band.
+#[tactic(auto, unfolding(crate::specs::Lanes::head))]
 fn put_head(
     out: &mut Vec<u8>,
     alloc: Global,
@@ -191,7 +192,7 @@ fn put_dotted(
     put_titled(out, alloc, "line", &given, told, &[])
 }
 
-#[tactic(auto, using(std::proofs::Common::append_assoc), unfolding(crate::specs::Lanes::interface_lane))]
+#[tactic(auto, using(std::proofs::Common::append_assoc), unfolding(crate::specs::Lanes::interface_lane, crate::specs::Lanes::dotted, crate::specs::Lanes::head, crate::specs::Captions::titled))]
 fn put_interface_lane(
     out: &mut Vec<u8>,
     alloc: Global,

@@ -8,9 +8,10 @@ mod known;
 mod lanes;
 mod legends;
 mod rows;
+mod shapes;
 mod tables;
 mod ways;
 
 pub use drawing::chart;
-pub use legends::{Head, Meaning, Shape};
+pub use legends::{Explanation, Meaning};
 pub use tables::STYLE;

@@ -32,7 +32,7 @@ pub(crate) fn line_of(alloc: Global, entry: &Entry) -> Result<Vec<u8>, NoMemory>
     Ok(text)
 }
 
-#[tactic(auto, unfolding(crate::specs::Rows::line_number))]
+#[tactic(auto, unfolding(crate::specs::Rows::line_number, crate::specs::Captions::caption, crate::specs::Captions::holding))]
 fn put_line_number(out: &mut Vec<u8>, alloc: Global, y: u64, line: u32) -> Result<(), AllocError>
     requires { y ≤ 400000 }
     ensures { OnOk result (out.new.items ≡ out.old.items ++ printed (rows.line_number y line)) }
@@ -49,7 +49,7 @@ fn put_line_number(out: &mut Vec<u8>, alloc: Global, y: u64, line: u32) -> Resul
     )
 }
 
-#[tactic(auto, unfolding(crate::specs::Rows::line_text))]
+#[tactic(auto, unfolding(crate::specs::Rows::line_text, crate::specs::Captions::holding))]
 fn put_line_text(out: &mut Vec<u8>, line: &[u8], y: u64, row: Row) -> Result<(), AllocError>
     requires line { line.now ≡ lines.printed row.entry }
     requires low { y ≤ 400000 }
@@ -182,20 +182,6 @@ fn put_link(
 }
 
 #[tactic(auto, unfolding(crate::specs::Rows::inner_text))]
-fn put_inner_text(
-    out: &mut Vec<u8>,
-    alloc: Global,
-    x: u64,
-    y: u64,
-    text: LinePiece,
-) -> Result<(), AllocError>
-    requires { y ≤ 400000 }
-    ensures { OnOk result (out.new.items ≡ out.old.items ++ printed (rows.inner_text x y (word_of text))) }
-{
-    let given = [Number("x", x), Number("y", y + 3), Word("class", "in-sign")];
-    put_caption(out, alloc, &given, &[text])
-}
-
 fn put_inner(
     out: &mut Vec<u8>,
     alloc: Global,
@@ -207,16 +193,14 @@ fn put_inner(
     requires { y ≤ 400000 }
     ensures { OnOk result (out.new.items ≡ out.old.items ++ printed (rows.inner picture.now x y (option_map word_of text))) }
 {
-    match text {
-        None => Ok(()),
-        Some(text) => {
-            if has_text(picture) {
-                put_inner_text(out, alloc, x, y, text)
-            } else {
-                Ok(())
-            }
-        }
+    let Some(text) = text else {
+        return Ok(());
+    };
+    if !has_text(picture) {
+        return Ok(());
     }
+    let given = [Number("x", x), Number("y", y + 3), Word("class", "in-sign")];
+    put_caption(out, alloc, &given, &[text])
 }
 
 #[tactic(auto, unfolding(crate::specs::Rows::label_x))]
@@ -264,34 +248,6 @@ fn put_label_at(
     put_caption(out, alloc, &given, &[text])
 }
 
-fn put_label_text(
-    out: &mut Vec<u8>,
-    alloc: Global,
-    picture: &Picture,
-    left: u64,
-    x: u64,
-    y: u64,
-    about: Option<Named>,
-    to: Option<Link>,
-    text: LinePiece,
-) -> Result<(), AllocError>
-    requires drawable { IsDrawable picture.now }
-    requires narrow { left ≤ 4000 }
-    requires near { x ≤ 60100 }
-    ensures { OnOk result (out.new.items ≡ out.old.items ++ printed (rows.label_text picture.now left x y about to (word_of text))) }
-{
-    let place = label_x(picture, left, x, to);
-    put_label_at(
-        out,
-        alloc,
-        place,
-        y,
-        class_of(about),
-        label_anchor(to),
-        text,
-    )
-}
-
 fn put_label(
     out: &mut Vec<u8>,
     alloc: Global,
@@ -308,16 +264,14 @@ fn put_label(
     requires near { x ≤ 60100 }
     ensures { OnOk result (out.new.items ≡ out.old.items ++ printed (rows.label picture.now left x y about to (option_map word_of text))) }
 {
-    match text {
-        None => Ok(()),
-        Some(text) => {
-            if has_text(picture) {
-                put_label_text(out, alloc, picture, left, x, y, about, to, text)
-            } else {
-                Ok(())
-            }
-        }
+    let Some(text) = text else {
+        return Ok(());
+    };
+    if !has_text(picture) {
+        return Ok(());
     }
+    let (place, anchor) = (label_x(picture, left, x, to), label_anchor(to));
+    put_label_at(out, alloc, place, y, class_of(about), anchor, text)
 }
 
 fn labelled(outcome: Outcome, row: Row) -> Option<Named>
@@ -369,21 +323,44 @@ fn put_row_head(
     out: &mut Vec<u8>,
     alloc: Global,
     picture: &Picture,
+    text: &[u8],
     y: u64,
     line: u32,
     row: Row,
-) -> Result<(), NoMemory>
-    requires { y ≤ 400000 }
+) -> Result<(), AllocError>
+    requires line { text.now ≡ lines.printed row.entry }
+    requires low { y ≤ 400000 }
     ensures { OnOk result (out.new.items ≡ out.old.items ++ printed (rows.row_head picture.now y line row)) }
 {
-    let text = line_of(alloc, &row.entry)?;
-    put_holding(out, "title", &[], &text)?;
+    put_holding(out, "title", &[], text)?;
     put_fate(out, picture, y, row.about)?;
-    put_texts(out, alloc, picture, &text, y, line, row)?;
-    Ok(())
+    put_texts(out, alloc, picture, text, y, line, row)
 }
 
 #[tactic(auto, using(std::proofs::Common::append_assoc), unfolding(crate::specs::Rows::row_of))]
+fn put_told_row(
+    out: &mut Vec<u8>,
+    alloc: Global,
+    picture: &Picture,
+    left: u64,
+    text: &[u8],
+    line: u32,
+    row: Row,
+) -> Result<(), AllocError>
+    requires drawable { IsDrawable picture.now }
+    requires narrow { left ≤ 4000 }
+    requires line { text.now ≡ lines.printed row.entry }
+    ensures { OnOk result (out.new.items ≡ out.old.items ++ printed (rows.row_of picture.now left line row)) }
+{
+    let y = y_of(picture, line);
+    let x = x_of(picture, left, spot_of(row.entry.event));
+    put_open(out, "g", &[])?;
+    put_row_head(out, alloc, picture, text, y, line, row)?;
+    put_mark(out, alloc, picture, left, x, y, row)?;
+    put_close(out, "g")?;
+    put_break(out)
+}
+
 fn put_row(
     out: &mut Vec<u8>,
     alloc: Global,
@@ -396,13 +373,8 @@ fn put_row(
     requires narrow { left ≤ 4000 }
     ensures { OnOk result (out.new.items ≡ out.old.items ++ printed (rows.row_of picture.now left line row)) }
 {
-    let y = y_of(picture, line);
-    let x = x_of(picture, left, spot_of(row.entry.event));
-    put_open(out, "g", &[])?;
-    put_row_head(out, alloc, picture, y, line, row)?;
-    put_mark(out, alloc, picture, left, x, y, row)?;
-    put_close(out, "g")?;
-    put_break(out)?;
+    let text = line_of(alloc, &row.entry)?;
+    put_told_row(out, alloc, picture, left, &text, line, row)?;
     Ok(())
 }
 

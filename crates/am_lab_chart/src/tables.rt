@@ -3,9 +3,10 @@
 ghost use Rattle.std.specs.Prelude.{◌≡◌, ◌++◌, OnOk};
 ghost use Rattle.am_lab_chart.specs.Legends as legends;
 ghost use Rattle.am_lab_chart.specs.Tables as tables;
-ghost use Rattle.am_lab_xml.specs.Trees.{each, printed};
+ghost use Rattle.am_lab_xml.specs.Trees.{printed};
 
-use crate::legends::{Head, Meaning, Shape, put_arrow_heads, put_meanings, put_shapes};
+use crate::legends::Meaning::{Bar, Fate, Sign, Way};
+use crate::legends::put_meanings;
 use am_lab_picture::Picture;
 use std::alloc::{AllocError, Global};
 
@@ -23,256 +24,47 @@ pub const STYLE: &str = "\
     .pending{color:#66717c}.frame{color:#f2cf66}.draining{color:#d98b00}.host,.direct{color:#dfe4e8}\
     .disk{color:#87929d}.records{color:#9cc3e6;stroke:none}.received{color:#dca6c8;stroke:none}";
 
-/// Appends: the shapes of what calls come to.
-#[tactic(auto, unfolding(crate::specs::Tables::call_shapes))]
-pub(crate) fn put_call_shapes(out: &mut Vec<u8>, scale: &'static str) -> Result<(), AllocError>
-    ensures { OnOk result (out.new.items ≡ out.old.items ++ printed (each (legends.shape scale.now) tables.call_shapes)) }
-{
-    put_shapes(
-        out,
-        scale,
-        &[
-            Shape {
-                id: "request",
-                area: "M-6-5L6 0L-6 5z",
-                edge: "M0 0",
-            },
-            Shape {
-                id: "run",
-                area: "M-7 0a7 7 0 1 0 14 0a7 7 0 1 0-14 0z",
-                edge: "M0 0",
-            },
-            Shape {
-                id: "notice",
-                area: "M-6-6h12v12h-12z",
-                edge: "M0 0",
-            },
-            Shape {
-                id: "refused",
-                area: "M0 0",
-                edge: "M-5-5L5 5M-5 5L5-5",
-            },
-            Shape {
-                id: "blocked",
-                area: "M-8-2h16v4h-16z",
-                edge: "M0 0",
-            },
-            Shape {
-                id: "given-up",
-                area: "M-6 0L0-6L6 0L0 6z",
-                edge: "M0 0",
-            },
-            Shape {
-                id: "closed",
-                area: "M0 0",
-                edge: "M-9-2h18M-9 2h18",
-            },
-            Shape {
-                id: "wanted",
-                area: "M-5 3L0-5L5 3z",
-                edge: "M0 0",
-            },
-        ],
-    )
-}
-
-/// Appends: the shapes of what happens beside calls.
-#[tactic(auto, unfolding(crate::specs::Tables::event_shapes))]
-pub(crate) fn put_event_shapes(out: &mut Vec<u8>, scale: &'static str) -> Result<(), AllocError>
-    ensures { OnOk result (out.new.items ≡ out.old.items ++ printed (each (legends.shape scale.now) tables.event_shapes)) }
-{
-    put_shapes(
-        out,
-        scale,
-        &[
-            Shape {
-                id: "done",
-                area: "M-3 0a3 3 0 1 0 6 0a3 3 0 1 0-6 0z",
-                edge: "M0 0",
-            },
-            Shape {
-                id: "nothing",
-                area: "M0 0",
-                edge: "M-3 0a3 3 0 1 0 6 0a3 3 0 1 0-6 0z",
-            },
-            Shape {
-                id: "moved",
-                area: "M0 0",
-                edge: "M-10 0h20",
-            },
-            Shape {
-                id: "failed",
-                area: "M0 0",
-                edge: "M-10 0h20M-4-5l8 10M-4 5l8-10",
-            },
-            Shape {
-                id: "time-out",
-                area: "M0 0",
-                edge: "M-5 0a5 5 0 1 0 10 0a5 5 0 1 0-10 0zM0-3V0h3",
-            },
-            Shape {
-                id: "lost-right",
-                area: "M16 4l1.5-1.5l3.5 3.5l3.5-3.5l1.5 1.5l-3.5 3.5l3.5 3.5l-1.5 1.5l-3.5-3.5l-3.5 3.5l-1.5-1.5l3.5-3.5z",
-                edge: "M0 0L18 6.5",
-            },
-            Shape {
-                id: "lost-left",
-                area: "M-16 4l-1.5-1.5l-3.5 3.5l-3.5-3.5l-1.5 1.5l3.5 3.5l-3.5 3.5l1.5 1.5l3.5-3.5l3.5 3.5l1.5-1.5l-3.5-3.5z",
-                edge: "M0 0L-18 6.5",
-            },
-        ],
-    )
-}
-
-/// Appends: the shapes of what stands at the end of a line to an endpoint.
-#[tactic(auto, unfolding(crate::specs::Tables::ending_shapes))]
-pub(crate) fn put_ending_shapes(out: &mut Vec<u8>, scale: &'static str) -> Result<(), AllocError>
-    ensures { OnOk result (out.new.items ≡ out.old.items ++ printed (each (legends.shape scale.now) tables.ending_shapes)) }
-{
-    put_shapes(
-        out,
-        scale,
-        &[
-            Shape {
-                id: "taken",
-                area: "M0 0",
-                edge: "M0 0",
-            },
-            Shape {
-                id: "arrived",
-                area: "M0 0",
-                edge: "M0 0",
-            },
-            Shape {
-                id: "stopped",
-                area: "M0 0",
-                edge: "M0-6v12",
-            },
-            Shape {
-                id: "settled",
-                area: "M0 0",
-                edge: "M-5 0l4 4l6-8",
-            },
-            Shape {
-                id: "requeued",
-                area: "M0 0",
-                edge: "M4 2a4 4 0 1 1 0-4M5-6v4h-4",
-            },
-            Shape {
-                id: "came-back",
-                area: "M0 0",
-                edge: "M-4-4l8 8M-4 4l8-8",
-            },
-            Shape {
-                id: "timed-out",
-                area: "M0 0",
-                edge: "M-3-3a3 3 0 1 1 4 2.8c-1 .4-1 1-1 2M0 4v1.5",
-            },
-        ],
-    )
-}
-
-/// Appends: the shapes of fates.
-#[tactic(auto, unfolding(crate::specs::Tables::fate_shapes))]
-pub(crate) fn put_fate_shapes(out: &mut Vec<u8>, scale: &'static str) -> Result<(), AllocError>
-    ensures { OnOk result (out.new.items ≡ out.old.items ++ printed (each (legends.shape scale.now) tables.fate_shapes)) }
-{
-    put_shapes(
-        out,
-        scale,
-        &[
-            Shape {
-                id: "no-fate",
-                area: "M0 0",
-                edge: "M-3 0h6",
-            },
-            Shape {
-                id: "fate-ran",
-                area: "M0 0",
-                edge: "M-5 0l4 4l6-8",
-            },
-            Shape {
-                id: "fate-returned",
-                area: "M0 0",
-                edge: "M-4-4l8 8M-4 4l8-8",
-            },
-            Shape {
-                id: "fate-unknown",
-                area: "M0 0",
-                edge: "M-3-3a3 3 0 1 1 4 2.8c-1 .4-1 1-1 2M0 4v1.5",
-            },
-            Shape {
-                id: "fate-unknown-but-ran",
-                area: "M0 0",
-                edge: "M-6-3a3 3 0 1 1 4 2.8c-1 .4-1 1-1 2M-3 4v1.5M1 2l2 2l4-6",
-            },
-            Shape {
-                id: "fate-pending",
-                area: "M0 0",
-                edge: "M-5 0h2M-1 0h2M3 0h2",
-            },
-        ],
-    )
-}
-
-/// Appends: the shapes that the legend has besides.
-#[tactic(auto, unfolding(crate::specs::Tables::legend_shapes))]
-pub(crate) fn put_legend_shapes(out: &mut Vec<u8>, scale: &'static str) -> Result<(), AllocError>
-    ensures { OnOk result (out.new.items ≡ out.old.items ++ printed (each (legends.shape scale.now) tables.legend_shapes)) }
-{
-    put_shapes(
-        out,
-        scale,
-        &[
-            Shape {
-                id: "box",
-                area: "M-6-6h12v12h-12z",
-                edge: "M0 0",
-            },
-            Shape {
-                id: "way",
-                area: "M0 0",
-                edge: "M-12 0h24",
-            },
-        ],
-    )
-}
-
-/// Appends the arrow heads, one for each class of messages.
-#[tactic(auto, unfolding(crate::specs::Tables::heads))]
-pub(crate) fn put_heads(out: &mut Vec<u8>) -> Result<(), AllocError>
-    ensures { OnOk result (out.new.items ≡ out.old.items ++ printed (each legends.arrow_head tables.heads)) }
-{
-    put_arrow_heads(
-        out,
-        &[
-            Head {
-                id: "head-plain",
-                class: "plain",
-            },
-            Head {
-                id: "head-ran",
-                class: "ran",
-            },
-            Head {
-                id: "head-returned",
-                class: "returned",
-            },
-            Head {
-                id: "head-unknown",
-                class: "unknown",
-            },
-            Head {
-                id: "head-unknown-but-ran",
-                class: "unknown-but-ran",
-            },
-            Head {
-                id: "head-pending",
-                class: "pending",
-            },
-        ],
-    )
-}
+/// The shapes of the signs, and an arrow head for each class of messages. `[name(area)edge]` is a shape, of which the area
+/// is filled and the edge only stroked, `{name:class}` an arrow head; `spelled` of `specs/Shapes.antt` says what each of
+/// these bytes stands for.
+pub const DEFINITIONS: &str = "<defs>\
+    [request(M-6-5L6 0L-6 5z)M0 0]\
+    [run(M-7 0a7 7 0 1 0 14 0a7 7 0 1 0-14 0z)M0 0]\
+    [notice(M-6-6h12v12h-12z)M0 0]\
+    [refused(M0 0)M-5-5L5 5M-5 5L5-5]\
+    [blocked(M-8-2h16v4h-16z)M0 0]\
+    [given-up(M-6 0L0-6L6 0L0 6z)M0 0]\
+    [closed(M0 0)M-9-2h18M-9 2h18]\
+    [wanted(M-5 3L0-5L5 3z)M0 0]\
+    [done(M-3 0a3 3 0 1 0 6 0a3 3 0 1 0-6 0z)M0 0]\
+    [nothing(M0 0)M-3 0a3 3 0 1 0 6 0a3 3 0 1 0-6 0z]\
+    [moved(M0 0)M-10 0h20]\
+    [failed(M0 0)M-10 0h20M-4-5l8 10M-4 5l8-10]\
+    [time-out(M0 0)M-5 0a5 5 0 1 0 10 0a5 5 0 1 0-10 0zM0-3V0h3]\
+    [lost-right(M16 4l1.5-1.5l3.5 3.5l3.5-3.5l1.5 1.5l-3.5 3.5l3.5 3.5l-1.5 1.5l-3.5-3.5l-3.5 3.5l-1.5-1.5l3.5-3.5z)M0 0L18 6.5]\
+    [lost-left(M-16 4l-1.5-1.5l-3.5 3.5l-3.5-3.5l-1.5 1.5l3.5 3.5l-3.5 3.5l1.5 1.5l3.5-3.5l3.5 3.5l1.5-1.5l-3.5-3.5z)M0 0L-18 6.5]\
+    [taken(M0 0)M0 0]\
+    [arrived(M0 0)M0 0]\
+    [stopped(M0 0)M0-6v12]\
+    [settled(M0 0)M-5 0l4 4l6-8]\
+    [requeued(M0 0)M4 2a4 4 0 1 1 0-4M5-6v4h-4]\
+    [came-back(M0 0)M-4-4l8 8M-4 4l8-8]\
+    [timed-out(M0 0)M-3-3a3 3 0 1 1 4 2.8c-1 .4-1 1-1 2M0 4v1.5]\
+    [no-fate(M0 0)M-3 0h6]\
+    [fate-ran(M0 0)M-5 0l4 4l6-8]\
+    [fate-returned(M0 0)M-4-4l8 8M-4 4l8-8]\
+    [fate-unknown(M0 0)M-3-3a3 3 0 1 1 4 2.8c-1 .4-1 1-1 2M0 4v1.5]\
+    [fate-unknown-but-ran(M0 0)M-6-3a3 3 0 1 1 4 2.8c-1 .4-1 1-1 2M-3 4v1.5M1 2l2 2l4-6]\
+    [fate-pending(M0 0)M-5 0h2M-1 0h2M3 0h2]\
+    [box(M-6-6h12v12h-12z)M0 0]\
+    [way(M0 0)M-12 0h24]\
+    {head-plain:plain}\
+    {head-ran:ran}\
+    {head-returned:returned}\
+    {head-unknown:unknown}\
+    {head-unknown-but-ran:unknown-but-ran}\
+    {head-pending:pending}\
+    </defs>";
 
 /// Appends what the legend says of fates, as far as it occurs.
 #[tactic(auto, unfolding(crate::specs::Tables::fate_meanings))]
@@ -289,54 +81,22 @@ pub(crate) fn put_fate_meanings(
         picture,
         18,
         &[
-            Meaning {
-                key: "ran",
-                sign: "#fate-ran",
-                class: "ran",
-                dashes: "none",
-                width: 49,
-                text: "ran",
-            },
-            Meaning {
-                key: "returned",
-                sign: "#fate-returned",
-                class: "returned",
-                dashes: "none",
-                width: 75,
-                text: "returned",
-            },
-            Meaning {
-                key: "unknown",
-                sign: "#fate-unknown",
-                class: "unknown",
-                dashes: "none",
-                width: 70,
-                text: "unknown",
-            },
-            Meaning {
-                key: "unknown-but-ran",
-                sign: "#fate-unknown-but-ran",
-                class: "unknown-but-ran",
-                dashes: "none",
-                width: 117,
-                text: "unknown, but ran",
-            },
-            Meaning {
-                key: "pending",
-                sign: "#fate-pending",
-                class: "pending",
-                dashes: "none",
-                width: 70,
-                text: "pending",
-            },
-            Meaning {
-                key: "plain",
-                sign: "#no-fate",
-                class: "plain",
-                dashes: "none",
-                width: 226,
-                text: "no message, or none that was accepted",
-            },
+            Fate("ran", "#fate-ran", 49, "ran"),
+            Fate("returned", "#fate-returned", 75, "returned"),
+            Fate("unknown", "#fate-unknown", 70, "unknown"),
+            Fate(
+                "unknown-but-ran",
+                "#fate-unknown-but-ran",
+                117,
+                "unknown, but ran",
+            ),
+            Fate("pending", "#fate-pending", 70, "pending"),
+            Fate(
+                "plain",
+                "#no-fate",
+                226,
+                "no message, or none that was accepted",
+            ),
         ],
     )
 }
@@ -356,62 +116,13 @@ pub(crate) fn put_bar_meanings(
         picture,
         42,
         &[
-            Meaning {
-                key: "frame",
-                sign: "#box",
-                class: "frame",
-                dashes: "none",
-                width: 153,
-                text: "in a frame (its number)",
-            },
-            Meaning {
-                key: "draining",
-                sign: "#box",
-                class: "draining",
-                dashes: "none",
-                width: 75,
-                text: "draining",
-            },
-            Meaning {
-                key: "host",
-                sign: "#box",
-                class: "host",
-                dashes: "none",
-                width: 91,
-                text: "on the host",
-            },
-            Meaning {
-                key: "disk",
-                sign: "#box",
-                class: "disk",
-                dashes: "none",
-                width: 70,
-                text: "on disk",
-            },
-            Meaning {
-                key: "direct",
-                sign: "#box",
-                class: "direct",
-                dashes: "none",
-                width: 143,
-                text: "on the direct network",
-            },
-            Meaning {
-                key: "records",
-                sign: "#box",
-                class: "records",
-                dashes: "none",
-                width: 200,
-                text: "records of requests that are out",
-            },
-            Meaning {
-                key: "received",
-                sign: "#box",
-                class: "received",
-                dashes: "none",
-                width: 153,
-                text: "received and not polled",
-            },
+            Bar("frame", 153, "in a frame (its number)"),
+            Bar("draining", 75, "draining"),
+            Bar("host", 91, "on the host"),
+            Bar("disk", 70, "on disk"),
+            Bar("direct", 143, "on the direct network"),
+            Bar("records", 200, "records of requests that are out"),
+            Bar("received", 153, "received and not polled"),
         ],
     )
 }
@@ -431,62 +142,13 @@ pub(crate) fn put_call_meanings(
         picture,
         66,
         &[
-            Meaning {
-                key: "#request",
-                sign: "#request",
-                class: "plain",
-                dashes: "none",
-                width: 71,
-                text: "request",
-            },
-            Meaning {
-                key: "#run",
-                sign: "#run",
-                class: "plain",
-                dashes: "none",
-                width: 122,
-                text: "run (its handler)",
-            },
-            Meaning {
-                key: "#notice",
-                sign: "#notice",
-                class: "plain",
-                dashes: "none",
-                width: 65,
-                text: "notice",
-            },
-            Meaning {
-                key: "#refused",
-                sign: "#refused",
-                class: "plain",
-                dashes: "none",
-                width: 98,
-                text: "refused call",
-            },
-            Meaning {
-                key: "#blocked",
-                sign: "#blocked",
-                class: "plain",
-                dashes: "none",
-                width: 132,
-                text: "no room for a reply",
-            },
-            Meaning {
-                key: "#given-up",
-                sign: "#given-up",
-                class: "plain",
-                dashes: "none",
-                width: 78,
-                text: "given up",
-            },
-            Meaning {
-                key: "#closed",
-                sign: "#closed",
-                class: "plain",
-                dashes: "none",
-                width: 65,
-                text: "closed",
-            },
+            Sign("#request", 71, "request"),
+            Sign("#run", 122, "run (its handler)"),
+            Sign("#notice", 65, "notice"),
+            Sign("#refused", 98, "refused call"),
+            Sign("#blocked", 132, "no room for a reply"),
+            Sign("#given-up", 78, "given up"),
+            Sign("#closed", 65, "closed"),
         ],
     )
 }
@@ -506,54 +168,12 @@ pub(crate) fn put_event_meanings(
         picture,
         90,
         &[
-            Meaning {
-                key: "#done",
-                sign: "#done",
-                class: "plain",
-                dashes: "none",
-                width: 54,
-                text: "done",
-            },
-            Meaning {
-                key: "#nothing",
-                sign: "#nothing",
-                class: "plain",
-                dashes: "none",
-                width: 131,
-                text: "nothing came of it",
-            },
-            Meaning {
-                key: "#moved",
-                sign: "#moved",
-                class: "plain",
-                dashes: "none",
-                width: 64,
-                text: "moved",
-            },
-            Meaning {
-                key: "#failed",
-                sign: "#failed",
-                class: "plain",
-                dashes: "none",
-                width: 101,
-                text: "device failed",
-            },
-            Meaning {
-                key: "#time-out",
-                sign: "#time-out",
-                class: "plain",
-                dashes: "none",
-                width: 75,
-                text: "time-out",
-            },
-            Meaning {
-                key: "#wanted",
-                sign: "#wanted",
-                class: "plain",
-                dashes: "none",
-                width: 65,
-                text: "wanted",
-            },
+            Sign("#done", 54, "done"),
+            Sign("#nothing", 131, "nothing came of it"),
+            Sign("#moved", 64, "moved"),
+            Sign("#failed", 101, "device failed"),
+            Sign("#time-out", 75, "time-out"),
+            Sign("#wanted", 65, "wanted"),
         ],
     )
 }
@@ -573,78 +193,15 @@ pub(crate) fn put_way_meanings(
         picture,
         114,
         &[
-            Meaning {
-                key: "none",
-                sign: "#way",
-                class: "plain",
-                dashes: "none",
-                width: 90,
-                text: "request",
-            },
-            Meaning {
-                key: "9 3",
-                sign: "#way",
-                class: "plain",
-                dashes: "9 3",
-                width: 80,
-                text: "reply",
-            },
-            Meaning {
-                key: "2 3",
-                sign: "#way",
-                class: "plain",
-                dashes: "2 3",
-                width: 85,
-                text: "answer",
-            },
-            Meaning {
-                key: "#lost-left",
-                sign: "#lost-left",
-                class: "plain",
-                dashes: "none",
-                width: 106,
-                text: "never received",
-            },
-            Meaning {
-                key: "#stopped",
-                sign: "#stopped",
-                class: "plain",
-                dashes: "none",
-                width: 101,
-                text: "refused there",
-            },
-            Meaning {
-                key: "#settled",
-                sign: "#settled",
-                class: "plain",
-                dashes: "none",
-                width: 106,
-                text: "accepted there",
-            },
-            Meaning {
-                key: "#requeued",
-                sign: "#requeued",
-                class: "plain",
-                dashes: "none",
-                width: 75,
-                text: "put back",
-            },
-            Meaning {
-                key: "#came-back",
-                sign: "#came-back",
-                class: "plain",
-                dashes: "none",
-                width: 75,
-                text: "returned",
-            },
-            Meaning {
-                key: "#timed-out",
-                sign: "#timed-out",
-                class: "plain",
-                dashes: "none",
-                width: 70,
-                text: "unknown",
-            },
+            Way("none", 90, "request"),
+            Way("9 3", 80, "reply"),
+            Way("2 3", 85, "answer"),
+            Sign("#lost-left", 106, "never received"),
+            Sign("#stopped", 101, "refused there"),
+            Sign("#settled", 106, "accepted there"),
+            Sign("#requeued", 75, "put back"),
+            Sign("#came-back", 75, "returned"),
+            Sign("#timed-out", 70, "unknown"),
         ],
     )
 }

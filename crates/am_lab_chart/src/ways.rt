@@ -79,7 +79,7 @@ fn end_x(picture: &Picture, left: u64, packet: Packet) -> u64
     x_of_interface(picture, left, packet.way().to)
 }
 
-#[tactic(auto, unfolding(crate::specs::Ways::straight))]
+#[tactic(auto, unfolding(crate::specs::Ways::straight, crate::specs::Captions::titled))]
 fn put_straight(
     out: &mut Vec<u8>,
     alloc: Global,
@@ -104,7 +104,7 @@ fn put_straight(
     put_titled(out, alloc, "line", &given, &arrow_title(arrow), &[])
 }
 
-#[tactic(auto, unfolding(crate::specs::Ways::arc))]
+#[tactic(auto, unfolding(crate::specs::Ways::arc, crate::specs::Captions::titled))]
 fn put_arc(
     out: &mut Vec<u8>,
     alloc: Global,
@@ -193,7 +193,7 @@ fn lost_sign(leftwards: bool) -> &'static str
     }
 }
 
-#[tactic(auto, unfolding(crate::specs::Ways::drawn_cross))]
+#[tactic(auto, unfolding(crate::specs::Ways::drawn_cross, crate::specs::Captions::titled))]
 fn put_cross(
     out: &mut Vec<u8>,
     alloc: Global,

@@ -18,28 +18,14 @@ pub use crate::json::laws::{each_entry_has_its_line, nothing_is_escaped, objects
 pub use crate::json::objects::objects_text;
 use am_check::laws::yes_is_true;
 use am_check::place_of;
+use am_lab_drawings::view::journal_of;
 use am_lab_picture::{IndexedJournal, Lines, rows};
-use am_lab_reasons::journal::reach_end;
-use am_machine::Cluster;
 use am_main_lines::Output;
 use am_main_step::check_output;
 use am_names::NoMemory;
 use am_office_entries::Journal;
 use am_scenario::{Form, Scenario, read};
 use std::alloc::Global;
-
-// The journal of a report of a scenario.
-fn journal_of(alloc: Global, scenario: &Scenario, bytes: &[u8]) -> Result<Journal, NoMemory>
-    requires few { length bytes.now < 2 ^ 31 }
-    requires lawful { IsLawful scenario.now }
-    requires report { (form : Kind) × IsReportOf form scenario.now bytes.now }
-    ensures { (form : Kind) (r : IsReportOf form scenario.now bytes.now) → IfOk result (λ journal. journal ≡ r.journal) }
-{
-    let mut cluster = Cluster::new(alloc, scenario)?;
-    reach_end(&mut cluster, bytes)?;
-    let logged = cluster.journal(alloc)?;
-    logged.copied(alloc)
-}
 
 // The lines of a journal's objects.
 fn journal_text(alloc: Global, journal: Journal) -> Result<Vec<u8>, NoMemory>

@@ -4,7 +4,7 @@ ghost use Rattle.am_lab_drawings.specs.Charts.{ChartAnswers};
 ghost use Rattle.am_lab_page.specs.Json.Answers.{JsonAnswers};
 ghost use Rattle.am_lab_page.specs.Page.Pages.{PageAnswers, page_of};
 ghost use Rattle.am_main_lines.specs.Lines.{answer_in};
-ghost use Rattle.std.specs.Prelude.{◌≡◌, ◌<◌, ◌^◌, ◌++◌, IfOk, length};
+ghost use Rattle.std.specs.Prelude.{◌≡◌, ◌<◌, ◌^◌, ◌++◌, IfOk, OnOk, length};
 
 mod back;
 mod front;
@@ -22,23 +22,20 @@ use am_names::NoMemory;
 use am_scenario::Form;
 use std::alloc::{AllocError, Global};
 
-// Five texts, one behind the other.
-fn joined(
-    alloc: Global,
-    front: &str,
+// Appends four texts.
+fn put_texts(
+    text: &mut Vec<u8>,
     journal: &[u8],
     middle: &str,
     picture: &[u8],
     back: &str,
-) -> Result<Vec<u8>, AllocError>
-    ensures { IfOk result (λ text. text.items ≡ front.now ++ journal.now ++ middle.now ++ picture.now ++ back.now) }
+) -> Result<(), AllocError>
+    ensures { OnOk result (text.new.items ≡ text.old.items ++ journal.now ++ middle.now ++ picture.now ++ back.now) }
 {
-    let mut text = Vec::from_slice(alloc, front.as_bytes())?;
     text.extend_from_slice(journal)?;
     text.extend_from_slice(middle.as_bytes())?;
     text.extend_from_slice(picture)?;
-    text.extend_from_slice(back.as_bytes())?;
-    Ok(text)
+    text.extend_from_slice(back.as_bytes())
 }
 
 // The page round a journal and a picture.
@@ -46,7 +43,9 @@ fn joined(
 fn page_text(alloc: Global, journal: &[u8], picture: &[u8]) -> Result<Vec<u8>, AllocError>
     ensures { IfOk result (λ text. text.items ≡ page_of journal.now picture.now) }
 {
-    joined(alloc, FRONT, journal, MIDDLE, picture, BACK)
+    let mut text = Vec::from_slice(alloc, FRONT.as_bytes())?;
+    put_texts(&mut text, journal, MIDDLE, picture, BACK)?;
+    Ok(text)
 }
 
 // The page of a report whose journal is told, or why it isn't drawn.

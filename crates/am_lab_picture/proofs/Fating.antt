@@ -1,7 +1,5 @@
 -- What a table of fates says after one entry more.
-use Rattle.std.proofs.Common.{◌≡◌, ℕ, ◌+◌, ◌<◌, Bool, ◌||◌, Option, Some, None, List, [], ◌∷◌, ◌++◌, refl, sym, ap, ◌∙◌, subst, length, take, get_or, slice_get}
-use Rattle.std.proofs.Common.{add-one}
-use Rattle.std.proofs.Math.Seq.{take-suc}
+use Rattle.std.proofs.Common.{◌≡◌, Bool, ◌||◌, Option, Some, None, List, [], ◌∷◌, ◌++◌, refl, sym, ap, ◌∙◌, slice_get}
 use Rattle.std.specs.List.{cons_option}
 use Rattle.std.specs.Option.{option_or}
 use Rattle.std.proofs.lemmas.List.Elements.{filter_map-append}
@@ -48,9 +46,3 @@ learned old new past x told are =
       ran = λ (s : Serial). told.ran s ∙ ap (λ (b : Bool). b || passes (has_serial s) (run_of x)) (are.ran s)
           ∙ sym (list_any-push (λ (y : Entry). passes (has_serial s) (run_of y)) past x);
     }
-
-pub next : (new : FateTable) (xs : List Entry) (i : ℕ) (d : Entry) → i < length xs → AreFates new (take i xs ++ get_or xs i d ∷ []) →
-    AreFates new (take (i + 1) xs)
-next new xs i d below are =
-    let taken : take (i + 1) xs ≡ take i xs ++ get_or xs i d ∷ [] = rw add-one (take-suc xs i d below) in
-    subst (λ (l : List Entry). AreFates new l) (sym taken) are

@@ -1,6 +1,7 @@
 pub mod Data
 pub mod Abouts
 pub mod Ways
+pub mod Tables
 pub mod Fates
 pub mod Rows
 pub mod Arrows

@@ -1,8 +1,8 @@
 //! What became of each message, found by its serial without a look at the entries.
 
-ghost use Rattle.std.specs.Prelude.{◌≡◌, ◌||◌, [], List, IfOk, OnOk};
+ghost use Rattle.std.specs.Prelude.{◌≡◌, ◌||◌, OnOk};
 ghost use Rattle.std.specs.Option.{option_or};
-ghost use Rattle.am_lab_picture.specs.Fates.{AreFates, cause_in, has};
+ghost use Rattle.am_lab_picture.specs.Fates.{cause_in, has};
 ghost use Rattle.am_office_entries.specs.Fates.{cause_for};
 ghost use Rattle.am_names.specs.Names.{has_serial};
 ghost use Rattle.am_names.specs.declared.Serial.{Serial};
@@ -59,13 +59,13 @@ fn note_return(
 }
 
 impl FateTable {
-    ghost use Rattle.std.specs.Prelude.{◌≡◌, [], ◌∷◌, ◌++◌, List, IfOk, OnOk};
+    ghost use Rattle.std.specs.Prelude.{◌≡◌, [], ◌∷◌, ◌++◌, List, OnOk};
     ghost use Rattle.am_lab_picture.specs.Fates.{AreFates};
     ghost use Rattle.am_office_entries.specs.Fates.{fate};
     ghost use Rattle.am_office_entries.specs.declared.Entry.{Entry};
 
-    // Of no entries.
-    fn new(alloc: Global) -> Self
+    /// Of no entries.
+    pub(crate) fn new(alloc: Global) -> Self
         ensures { AreFates result [] }
     {
         FateTable {
@@ -76,8 +76,8 @@ impl FateTable {
         }
     }
 
-    // What one entry more says.
-    fn learn(&mut self, entry: &Entry) -> Result<(), AllocError>
+    /// What one entry more says.
+    pub(crate) fn learn(&mut self, entry: &Entry) -> Result<(), AllocError>
         ensures { (past : List Entry) → AreFates self.old past → OnOk result (AreFates self.new (past ++ entry.now ∷ [])) }
     {
         let accepted = serial_of(accepted_of(entry));
@@ -87,17 +87,6 @@ impl FateTable {
         note(&mut self.unknown, unknown_of(entry))?;
         note(&mut self.ran, ran)?;
         Ok(())
-    }
-
-    /// What a journal's entries say.
-    pub(crate) fn of(alloc: Global, entries: &[Entry]) -> Result<Self, AllocError>
-        ensures { IfOk result (λ table. AreFates table entries.now) }
-    {
-        let mut table = FateTable::new(alloc);
-        for entry in entries {
-            table.learn(entry)?;
-        }
-        Ok(table)
     }
 
     /// What became of a message. None exactly where no entry accepts it.

@@ -1,11 +1,9 @@
 //! A journal with what is looked up in it.
 
-use crate::fates::FateTable;
-use crate::ways::{emitters_of, received_in};
+use crate::tables::JournalTable;
 use am_names::{NoMemory, Serial, Way};
 use am_office_entries::{Entry, Fate, Journal};
 use std::alloc::Global;
-use std::collections::{BTreeMap, BTreeSet};
 use std::marker::Model;
 
 /// A journal whose messages' fates and whose packets' entries are found without a look at all its entries. Contracts
@@ -13,22 +11,19 @@ use std::marker::Model;
 #[derive(Drop)]
 pub struct IndexedJournal {
     journal: Journal,
-    fates: FateTable,
-    emitters: BTreeMap<Way, usize>,
-    received: BTreeSet<Way>,
+    table: JournalTable,
 }
 
 impl Model for IndexedJournal {
     ghost use Rattle.std.specs.Prelude.{List};
     ghost use Rattle.am_office_entries.specs.declared.Entry.{Entry};
-    ghost use Rattle.am_lab_picture.specs.Fates.{AreFates};
-    ghost use Rattle.am_lab_picture.specs.Ways.{AreEmitters, AreReceived};
+    ghost use Rattle.am_lab_picture.specs.Tables.{AreTables};
 
     ghost Value = { List Entry };
 
     ghost view = { λ indexed. indexed.journal };
 
-    ghost invariant = { λ indexed. AreFates indexed.fates indexed.journal × AreEmitters indexed.emitters indexed.journal × AreReceived indexed.received indexed.journal };
+    ghost invariant = { λ indexed. AreTables indexed.table indexed.journal };
 }
 
 impl IndexedJournal {
@@ -36,20 +31,13 @@ impl IndexedJournal {
     ghost use Rattle.am_lab_picture.specs.Ways.{emitter, is_received};
     ghost use Rattle.am_office_entries.specs.Fates.{fate};
 
-    /// The journal with its tables, for which it goes over the entries three times. `NoMemory` comes where there is
-    /// none for them, and nothing is left of the journal.
+    /// The journal with its tables, for which it goes over the entries once. `NoMemory` comes where there is none for
+    /// them, and nothing is left of the journal.
     pub fn new(alloc: Global, journal: Journal) -> Result<IndexedJournal, NoMemory>
         ensures { IfOk result (λ indexed. indexed ≡ journal) }
     {
-        let fates = FateTable::of(alloc, &journal.entries)?;
-        let emitters = emitters_of(alloc, &journal.entries)?;
-        let received = received_in(alloc, &journal.entries)?;
-        Ok(IndexedJournal {
-            journal,
-            fates,
-            emitters,
-            received,
-        })
+        let table = JournalTable::of(alloc, &journal.entries)?;
+        Ok(IndexedJournal { journal, table })
     }
 
     /// The entries.
@@ -63,7 +51,7 @@ impl IndexedJournal {
     pub fn fate(&self, serial: Serial) -> Option<Fate>
         ensures { result ≡ fate self.now serial }
     {
-        self.fates.fate(serial)
+        self.table.fates.fate(serial)
     }
 
     /// The place of the entry that emits a packet, the first where there are several (`emitter` of specs/Ways). None
@@ -71,13 +59,13 @@ impl IndexedJournal {
     pub fn emitter(&self, way: Way) -> Option<usize>
         ensures { result ≡ emitter self.now way }
     {
-        self.emitters.get(&way).copied()
+        self.table.emitters.get(&way).copied()
     }
 
     /// Whether an entry receives a packet (`is_received` of specs/Ways).
     pub fn is_received(&self, way: Way) -> bool
         ensures { result ≡ is_received self.now way }
     {
-        self.received.contains(&way)
+        self.table.received.contains(&way)
     }
 }

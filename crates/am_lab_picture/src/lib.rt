@@ -14,6 +14,7 @@ pub mod layout;
 mod packets;
 mod residencies;
 mod spans;
+mod tables;
 mod ways;
 
 pub use data::{Arrow, Cross, Lane, Lines, Named, Picture, Residency, Row, Span, Standing};

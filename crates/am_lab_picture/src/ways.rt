@@ -1,15 +1,15 @@
 //! Packets by their links and their numbers there.
 
-ghost use Rattle.std.specs.Prelude.{◌≡◌, ◌||◌, IfOk, OnOk};
+ghost use Rattle.std.specs.Prelude.{◌≡◌, ◌||◌, OnOk};
 ghost use Rattle.std.specs.Option.{option_or};
 ghost use Rattle.am_lab_picture.specs.Ways as ways;
-ghost use Rattle.am_lab_picture.specs.Ways.{AreEmitters, AreReceived, has_way, place_for, place_in, receives};
+ghost use Rattle.am_lab_picture.specs.Ways.{has_way, place_for, place_in, receives};
 ghost use Rattle.am_names.specs.declared.Way.{Way};
 
 use am_iface::emitted_of;
 use am_names::Way;
 use am_office_entries::{Entry, Event};
-use std::alloc::{AllocError, Global};
+use std::alloc::AllocError;
 use std::collections::{BTreeMap, BTreeSet};
 
 fn emitted_way(entry: &Entry) -> Option<Way>
@@ -35,8 +35,8 @@ pub(crate) fn received_way(event: Event) -> Option<Way>
     }
 }
 
-// The place of an entry, if it emits a packet and is the first for this packet.
-fn note_emitter(
+/// The place of an entry, if it emits a packet and is the first for this packet.
+pub(crate) fn note_emitter(
     places: &mut BTreeMap<Way, usize>,
     entry: &Entry,
     place: usize,
@@ -52,37 +52,12 @@ fn note_emitter(
     Ok(())
 }
 
-/// The places of the entries that emit, by the packets.
-pub(crate) fn emitters_of(
-    alloc: Global,
-    entries: &[Entry],
-) -> Result<BTreeMap<Way, usize>, AllocError>
-    ensures { IfOk result (λ places. AreEmitters places entries.now) }
-{
-    let mut places = BTreeMap::new(alloc);
-    for (place, entry) in entries.iter().enumerate() {
-        note_emitter(&mut places, entry, place)?;
-    }
-    Ok(places)
-}
-
-// The packet that an entry receives, if it receives one.
-fn note_received(set: &mut BTreeSet<Way>, entry: &Entry) -> Result<(), AllocError>
+/// The packet that an entry receives, if it receives one.
+pub(crate) fn note_received(set: &mut BTreeSet<Way>, entry: &Entry) -> Result<(), AllocError>
     ensures { OnOk result ((w : Way) → has_way set.new w ≡ (has_way set.old w || receives w entry.now)) }
 {
     if let Some(way) = received_way(entry.event) {
         set.insert(way)?;
     }
     Ok(())
-}
-
-/// The packets that the entries receive.
-pub(crate) fn received_in(alloc: Global, entries: &[Entry]) -> Result<BTreeSet<Way>, AllocError>
-    ensures { IfOk result (λ set. AreReceived set entries.now) }
-{
-    let mut set = BTreeSet::new(alloc);
-    for entry in entries {
-        note_received(&mut set, entry)?;
-    }
-    Ok(set)
 }

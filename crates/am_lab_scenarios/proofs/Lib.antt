@@ -29,3 +29,4 @@ pub mod Replaying
 pub mod Drawing
 pub mod Lawfully
 pub mod Saying
+pub mod Each

@@ -6,7 +6,9 @@ ghost use Rattle.am_main_lines.specs.Lines.{answer_in};
 ghost use Rattle.am_scenario.specs.Grammar.{grammar};
 ghost use Rattle.am_scenario_types.specs.Lawful.{IsLawful, IsOfForm};
 ghost use Rattle.am_scenario_types.specs.declared.parts.Form.TheVariants as Forms;
-ghost use Rattle.std.specs.Prelude.{◌≡◌, ◌<◌, ◌≤◌, ◌⊎◌, ◌++◌, IfNone, IfOk, IfSome, OnOk, true};
+ghost use Rattle.am_office_text.specs.Words.{line};
+ghost use Rattle.std.specs.Fmt.{decimal};
+ghost use Rattle.std.specs.Prelude.{◌≡◌, ◌<◌, ◌≤◌, ◌⊎◌, ◌∷◌, ◌++◌, [], IfNone, IfOk, IfSome, OnOk, codes, true};
 
 use crate::beginnings::has_line_with;
 use crate::one_seed::trial_output;
@@ -113,14 +115,21 @@ fn scenario_before(
     }
 }
 
+// Appends a seed, and behind it a scenario and what is answered.
+fn put_found(text: &mut Vec<u8>, seed: u64, scenario: &[u8], told: &[u8]) -> Result<(), AllocError>
+    ensures { OnOk result (text.new.items ≡ text.old.items ++ line (codes "seed") (decimal seed ∷ []) ++ scenario.now ++ told.now) }
+{
+    put_line(text, "seed", &[Number(seed)])?;
+    text.extend_from_slice(scenario)?;
+    text.extend_from_slice(told)
+}
+
 // What is printed of the seed that was found, behind which this text stands.
 fn found_output(alloc: Global, found: Found, scenario: &[u8]) -> Result<Output, AllocError>
     ensures { IfOk result (λ output. answer_in output ≡ found_seed found.seed scenario.now (answer_in found.of_run)) }
 {
     let mut text = Vec::new(alloc);
-    put_line(&mut text, "seed", &[Number(found.seed)])?;
-    text.extend_from_slice(scenario)?;
-    text.extend_from_slice(&found.of_run.text)?;
+    put_found(&mut text, found.seed, scenario, &found.of_run.text)?;
     Ok(Output {
         status: found.of_run.status,
         text,

@@ -211,14 +211,15 @@ fn command_words<'a>(alloc: Global, shown: Shown) -> Result<Command<'a>, AllocEr
     told_command(alloc, shown).arg(any_words(alloc))
 }
 
-// The same, among others.
-fn with_command<'a>(
+// The same, behind others.
+fn put_command<'a>(
     alloc: Global,
-    command: Command<'a>,
+    made: &mut Vec<Command<'a>>,
     shown: Shown,
-) -> Result<Command<'a>, AllocError> {
-    let more = command_words(alloc, shown)?;
-    command.subcommand(more)
+) -> Result<(), AllocError> {
+    let command = command_words(alloc, shown)?;
+    made.push(command)?;
+    Ok(())
 }
 
 // The program, as yet without commands.
@@ -232,23 +233,19 @@ fn program<'a>(alloc: Global) -> Command<'a> {
         .subcommand_required(true)
 }
 
-// The program with these commands.
-fn with_commands<'a>(
-    alloc: Global,
-    program: Command<'a>,
-    commands: &[Shown],
-) -> Result<Command<'a>, AllocError> {
-    let mut command = program;
+// These commands.
+fn made_of<'a>(alloc: Global, commands: &[Shown]) -> Result<Vec<Command<'a>>, AllocError> {
+    let mut made = Vec::new(alloc);
     for shown in commands {
-        let more = with_command(alloc, command, *shown)?;
-        command = more;
+        put_command(alloc, &mut made, *shown)?;
     }
-    Ok(command)
+    Ok(made)
 }
 
 /// All commands.
 pub(crate) fn all_words<'a>(alloc: Global) -> Result<Command<'a>, AllocError> {
-    with_commands(alloc, program(alloc), commands())
+    let made = made_of(alloc, commands())?;
+    program(alloc).subcommands(made)
 }
 
 /// A command, or all of them.

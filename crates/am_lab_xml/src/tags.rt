@@ -8,8 +8,7 @@ ghost use Rattle.am_lab_xml.specs.Trees.{attribute, attributes, closing, opening
 ghost use Rattle.am_lab_xml.specs.Trees.{Content as Contents};
 
 use crate::escaped::put_text;
-use am_office_text::LinePiece::Number;
-use am_office_text::{put_bytes, put_word};
+use itoa::Buffer;
 use std::alloc::AllocError;
 
 /// A place in a list of places, as in the `d` of a path: a text, a number, a space and a number.
@@ -36,7 +35,8 @@ pub enum Attribute<'a> {
 pub fn put_number(out: &mut Vec<u8>, number: u64) -> Result<(), AllocError>
     ensures { OnOk result (out.new.items ≡ out.old.items ++ printed (Contents.Text (decimal number))) }
 {
-    put_word(out, Number(number))
+    let mut buffer = Buffer::new();
+    out.extend_from_slice(buffer.format(number).as_bytes())
 }
 
 #[tactic(auto, using(crate::proofs::Texts::pieces))]
@@ -45,7 +45,7 @@ fn put_point(out: &mut Vec<u8>, place: Point) -> Result<(), AllocError>
 {
     put_text(out, place.lead.as_bytes())?;
     put_number(out, place.x)?;
-    put_bytes(out, b" ")?;
+    out.extend_from_slice(b" ")?;
     put_number(out, place.y)
 }
 
@@ -62,9 +62,9 @@ fn put_points(out: &mut Vec<u8>, places: &[Point]) -> Result<(), AllocError>
 fn put_name(out: &mut Vec<u8>, name: &str) -> Result<(), AllocError>
     ensures { OnOk result (out.new.items ≡ out.old.items ++ (codes " " ++ name.now ++ codes "=\"")) }
 {
-    put_bytes(out, b" ")?;
-    put_bytes(out, name.as_bytes())?;
-    put_bytes(out, b"=\"")
+    out.extend_from_slice(b" ")?;
+    out.extend_from_slice(name.as_bytes())?;
+    out.extend_from_slice(b"=\"")
 }
 
 #[tactic(auto, using(crate::proofs::Texts::escaped_points))]
@@ -92,7 +92,7 @@ fn put_attribute(out: &mut Vec<u8>, given: Attribute) -> Result<(), AllocError>
 {
     put_name(out, name_of(given))?;
     put_value(out, given)?;
-    put_bytes(out, b"\"")
+    out.extend_from_slice(b"\"")
 }
 
 #[tactic(auto, using(std::proofs::Common::append_assoc))]
@@ -110,10 +110,10 @@ fn put_attributes(out: &mut Vec<u8>, given: &[Attribute]) -> Result<(), AllocErr
 pub fn put_open(out: &mut Vec<u8>, name: &str, given: &[Attribute]) -> Result<(), AllocError>
     ensures { OnOk result (out.new.items ≡ out.old.items ++ opening name.now (map attribute_of given.now)) }
 {
-    put_bytes(out, b"<")?;
-    put_bytes(out, name.as_bytes())?;
+    out.extend_from_slice(b"<")?;
+    out.extend_from_slice(name.as_bytes())?;
     put_attributes(out, given)?;
-    put_bytes(out, b">")
+    out.extend_from_slice(b">")
 }
 
 /// Appends the tag that ends an element.
@@ -121,9 +121,9 @@ pub fn put_open(out: &mut Vec<u8>, name: &str, given: &[Attribute]) -> Result<()
 pub fn put_close(out: &mut Vec<u8>, name: &str) -> Result<(), AllocError>
     ensures { OnOk result (out.new.items ≡ out.old.items ++ closing name.now) }
 {
-    put_bytes(out, b"</")?;
-    put_bytes(out, name.as_bytes())?;
-    put_bytes(out, b">")
+    out.extend_from_slice(b"</")?;
+    out.extend_from_slice(name.as_bytes())?;
+    out.extend_from_slice(b">")
 }
 
 /// Appends an element that holds nothing.
@@ -131,15 +131,15 @@ pub fn put_close(out: &mut Vec<u8>, name: &str) -> Result<(), AllocError>
 pub fn put_empty(out: &mut Vec<u8>, name: &str, given: &[Attribute]) -> Result<(), AllocError>
     ensures { OnOk result (out.new.items ≡ out.old.items ++ printed (Contents.Empty name.now (map attribute_of given.now))) }
 {
-    put_bytes(out, b"<")?;
-    put_bytes(out, name.as_bytes())?;
+    out.extend_from_slice(b"<")?;
+    out.extend_from_slice(name.as_bytes())?;
     put_attributes(out, given)?;
-    put_bytes(out, b"/>")
+    out.extend_from_slice(b"/>")
 }
 
 /// Appends a line break between elements.
 pub fn put_break(out: &mut Vec<u8>) -> Result<(), AllocError>
     ensures { OnOk result (out.new.items ≡ out.old.items ++ printed Contents.Break) }
 {
-    put_bytes(out, b"\n")
+    out.extend_from_slice(b"\n")
 }

@@ -1,6 +1,8 @@
 //! The parts of a picture, put together.
 
 ghost use Rattle.am_check.specs.Verdict.{IsReportOf};
+ghost use Rattle.am_lab_picture.specs.Arrows as ways;
+ghost use Rattle.am_lab_picture.specs.Rows as entries;
 ghost use Rattle.am_lab_reasons.specs.Journal.Lines.{IsMadeAgain};
 ghost use Rattle.am_lab_drawings.specs.View.Pictures.{ShowsOf, picture_by, picture_of};
 ghost use Rattle.am_lab_drawings.specs.View.Parts as parts;
@@ -22,7 +24,7 @@ use am_office_entries::Journal;
 use am_office_entries::logged::LoggedJournal;
 use am_office_report::summary;
 use am_scenario::Scenario;
-use std::alloc::Global;
+use std::alloc::{AllocError, Global};
 
 // The two lines of a journal's summary.
 fn summary_of(alloc: Global, journal: &Journal) -> Result<Vec<u8>, NoMemory>
@@ -30,6 +32,46 @@ fn summary_of(alloc: Global, journal: &Journal) -> Result<Vec<u8>, NoMemory>
 {
     let logged = LoggedJournal::of(alloc, &journal.entries)?;
     summary(alloc, &logged)
+}
+
+// What a picture shows of a journal alone.
+#[derive(Drop)]
+struct Shown {
+    rows: Vec<Row>,
+    arrows: Vec<Arrow>,
+    crosses: Vec<Cross>,
+}
+
+fn shown_in(alloc: Global, indexed: &IndexedJournal, lines: Lines) -> Result<Shown, AllocError>
+    requires first { 3 ≤ lines.first }
+    requires within { lines.first + lines.count ≤ length indexed.now + 3 }
+    requires few { length indexed.now + 3 < 2 ^ 32 }
+    ensures rows { IfOk result (λ shown. shown.rows.items ≡ entries.rows lines indexed.now) }
+    ensures arrows { IfOk result (λ shown. shown.arrows.items ≡ ways.arrows lines indexed.now) }
+    ensures crosses { IfOk result (λ shown. shown.crosses.items ≡ ways.crosses lines indexed.now) }
+{
+    let rows = rows(alloc, indexed, lines)?;
+    let arrows = arrows(alloc, indexed, lines)?;
+    let crosses = crosses(alloc, indexed, lines)?;
+    Ok(Shown {
+        rows,
+        arrows,
+        crosses,
+    })
+}
+
+// What is shown of some lines of a journal.
+fn shown_of(alloc: Global, journal: Journal, lines: Lines) -> Result<Shown, NoMemory>
+    requires first { 3 ≤ lines.first }
+    requires within { lines.first + lines.count ≤ length journal + 3 }
+    requires few { length journal + 3 < 2 ^ 32 }
+    ensures rows { IfOk result (λ shown. shown.rows.items ≡ entries.rows lines journal) }
+    ensures arrows { IfOk result (λ shown. shown.arrows.items ≡ ways.arrows lines journal) }
+    ensures crosses { IfOk result (λ shown. shown.crosses.items ≡ ways.crosses lines journal) }
+{
+    let indexed = IndexedJournal::new(alloc, journal)?;
+    let shown = shown_in(alloc, &indexed, lines)?;
+    Ok(shown)
 }
 
 // The picture of some lines of a journal.
@@ -48,24 +90,23 @@ fn drawn(
 {
     let lanes = lanes(alloc, scenario, &journal.entries, lines)?;
     let summary = summary_of(alloc, &journal)?;
-    let indexed = IndexedJournal::new(alloc, journal)?;
-    let rows = rows(alloc, &indexed, lines)?;
-    let arrows = arrows(alloc, &indexed, lines)?;
-    let crosses = crosses(alloc, &indexed, lines)?;
+    let shown = shown_of(alloc, journal, lines)?;
     Ok(Picture {
         network: scenario.network,
         nodes: scenario.nodes,
         first: lines.first,
-        rows,
-        arrows,
-        crosses,
+        rows: shown.rows,
+        arrows: shown.arrows,
+        crosses: shown.crosses,
         lanes,
         summary,
     })
 }
 
-// The journal of a report of a scenario.
-fn journal_of(alloc: Global, scenario: &Scenario, bytes: &[u8]) -> Result<Journal, NoMemory>
+/// The journal of a report of a scenario, made again.
+///
+/// `NoMemory` comes where there is none for it.
+pub fn journal_of(alloc: Global, scenario: &Scenario, bytes: &[u8]) -> Result<Journal, NoMemory>
     requires few { length bytes.now < 2 ^ 31 }
     requires lawful { IsLawful scenario.now }
     requires report { (form : Kind) × IsReportOf form scenario.now bytes.now }

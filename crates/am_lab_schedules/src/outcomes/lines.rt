@@ -2,6 +2,7 @@
 
 ghost use Rattle.std.specs.Prelude.{◌≡◌, ◌++◌, OnOk, length};
 ghost use Rattle.am_lab_schedules.specs.Outcomes.Outcomes as outcomes;
+ghost use Rattle.am_office_report.specs.Report.{told};
 
 use crate::outcomes::fates::{FirstFates, put_missed_fates, put_other_fates};
 use crate::outcomes::runs::SeedRun;
@@ -46,8 +47,25 @@ fn put_line_end(alloc: Global, out: &mut Vec<u8>, full: Option<Part>) -> Result<
     }
 }
 
-/// The line of a run beside the first.
+/// The line of a run beside the first, whose messages are these.
 #[tactic(auto, using(std::proofs::Common::append_assoc), unfolding(crate::specs::Outcomes::Outcomes::run_line))]
+fn put_told_line(
+    alloc: Global,
+    out: &mut Vec<u8>,
+    first: &FirstFates,
+    run: &SeedRun,
+    messages: &[MessageFate],
+) -> Result<(), AllocError>
+    requires { messages.now ≡ told run.now.journal }
+    ensures { OnOk result (out.new.items ≡ out.old.items ++ outcomes.run_line first.now.messages.items run.now) }
+{
+    put_head(out, run, messages)?;
+    put_other_fates(alloc, out, first, messages)?;
+    put_missed_fates(alloc, out, first, messages)?;
+    put_line_end(alloc, out, run.full)
+}
+
+/// The line of a run beside the first.
 pub(crate) fn put_run_line(
     alloc: Global,
     out: &mut Vec<u8>,
@@ -58,10 +76,8 @@ pub(crate) fn put_run_line(
 {
     let logged = run.logged(alloc)?;
     let messages = fates(alloc, &logged)?;
-    put_head(out, run, &messages)?;
-    put_other_fates(alloc, out, first, &messages)?;
-    put_missed_fates(alloc, out, first, &messages)?;
-    Ok(put_line_end(alloc, out, run.full)?)
+    put_told_line(alloc, out, first, run, &messages)?;
+    Ok(())
 }
 
 /// How many distinct journals there were.

@@ -36,7 +36,7 @@ pub struct Telling {
 }
 
 impl Telling {
-    ghost use Rattle.std.specs.Prelude.{◌≡◌, ◌∷◌, ◌++◌, [], IfOk, List};
+    ghost use Rattle.std.specs.Prelude.{◌≡◌, ◌∷◌, ◌++◌, [], IfOk, List, OnOk};
     ghost use Rattle.am_lab_schedules.specs.Outcomes.Outcomes.{first_fates, outcomes};
     ghost use Rattle.am_lab_schedules.specs.Outcomes.Telling.{HasToldRuns};
     ghost use Rattle.am_lab_schedules.specs.declared.outcomes.runs.SeedRun.{SeedRun};
@@ -62,11 +62,18 @@ impl Telling {
         ensures { (first : List MessageFate) (runs : List SeedRun) → HasToldRuns self first runs → IfOk result (λ telling. HasToldRuns telling first (runs ++ run.now ∷ [])) }
     {
         let mut telling = self;
-        put_run_line(alloc, &mut telling.text, &telling.first, run)?;
-        let logged = run.logged(alloc)?;
-        telling.seen.keep(journal_lines(alloc, &logged)?)?;
-        telling.full = with_cut(telling.full, run);
+        telling.note(alloc, run)?;
         Ok(telling)
+    }
+
+    fn note(&mut self, alloc: Global, run: &SeedRun) -> Result<(), NoMemory>
+        ensures { (first : List MessageFate) (runs : List SeedRun) → HasToldRuns self.old first runs → OnOk result (HasToldRuns self.new first (runs ++ run.now ∷ [])) }
+    {
+        put_run_line(alloc, &mut self.text, &self.first, run)?;
+        let logged = run.logged(alloc)?;
+        self.seen.keep(journal_lines(alloc, &logged)?)?;
+        self.full = with_cut(self.full, run);
+        Ok(())
     }
 
     /// What is answered, when all runs are told: status 6 where one met a full log, else 0, and the text.

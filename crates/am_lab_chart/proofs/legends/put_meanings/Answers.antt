@@ -1,5 +1,6 @@
 use Rattle.std.proofs.Common.{arith, sym, ◌∙◌}
 use Rattle.std.proofs.lemmas.Grind.{common_steps}
+use Rattle.am_lab_chart.specs.Legends.{explained_as}
 use Rattle.am_lab_chart.proofs.Explained.{meaning_more}
 use Rattle.am_lab_chart.proofs.legends.put_meanings.Goals as goal
 
@@ -7,7 +8,7 @@ pub loop-meaning-preserved : goal.loop-meaning-preserved
 loop-meaning-preserved c =
     record {
       near = grind (arith, common_steps);
-      out = meaning_more c.args.picture.now c.args.meanings.now c.loop-meaning.x c.args.y c.loop-meaning.meaning-index _ _ _ _ _
-          c.loop-meaning-test.true (sym c.occurs.ensures ∙ c.if-not-occurs.false) c.from-x.ensures c.loop-meaning.invariant.out
+      out = meaning_more c.args.picture.now c.args.meanings.now c.loop-meaning.x c.args.y c.loop-meaning.meaning-index _ _ (explained_as c.explain-shown.result) _ _ _
+          c.loop-meaning-test.true c.explain-shown.ensures (sym c.occurs.ensures ∙ c.if-not-occurs.false) c.from-x.ensures c.loop-meaning.invariant.out
           c.in_ok-put_meaning.ensures;
     }
