@@ -1,14 +1,16 @@
 //! The messages of an endpoint.
 
-ghost use Rattle.am_lab_state.specs.Ends.{answered_word, flying_line, message_lines, notice_line, queued_line, received_line};
+ghost use Rattle.am_lab_arrivals.specs.Arrivals.{received_line};
+ghost use Rattle.am_lab_state.specs.Ends.{answered_word, flying_line, message_lines, notice_line, queued_line};
 ghost use Rattle.std.specs.List.{flat_map};
 ghost use Rattle.std.specs.Prelude.{◌≡◌, ◌++◌, OnOk};
 
 use crate::flights::flights;
 use am_block::List;
 use am_endpoint::Body;
+use am_lab_arrivals::put_arrivals;
 use am_model::{Flying, Notice, Queued};
-use am_names::{EndpointId, Message, NoMemory};
+use am_names::{EndpointId, NoMemory};
 use am_office_text::LinePiece::Text;
 use am_office_text::{LinePiece, kind_word, put_line, small, why_word};
 use std::alloc::{AllocError, Global};
@@ -101,32 +103,6 @@ fn put_notices(out: &mut Vec<u8>, end: EndpointId, notices: &[Notice]) -> Result
 {
     for notice in notices {
         put_notice(out, end, notice)?;
-    }
-    Ok(())
-}
-
-// Appends a message that was received and not polled.
-fn put_arrival(out: &mut Vec<u8>, end: EndpointId, message: &Message) -> Result<(), AllocError>
-    ensures { OnOk result (out.new.items ≡ out.old.items ++ received_line end message.now) }
-{
-    put_line(
-        out,
-        "endpoint",
-        &[
-            small(end.0),
-            Text("received"),
-            Text(kind_word(message.kind)),
-            LinePiece::Serial(message.serial),
-        ],
-    )
-}
-
-// Appends the messages that were received and not polled.
-fn put_arrivals(out: &mut Vec<u8>, end: EndpointId, received: &[Message]) -> Result<(), AllocError>
-    ensures { OnOk result (out.new.items ≡ out.old.items ++ flat_map (received_line end) received.now) }
-{
-    for message in received {
-        put_arrival(out, end, message)?;
     }
     Ok(())
 }

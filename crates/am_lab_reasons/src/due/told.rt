@@ -17,12 +17,13 @@ ghost use Rattle.am_scenario_types.specs.Lawful.{IsLawful};
 ghost use Rattle.am_scenario_types.specs.declared.parts.Form.TheVariants as Forms;
 ghost use Rattle.am_scenario_types.specs.declared.parts.Network.TheVariants.{Packet};
 ghost use Rattle.am_model_scripts.specs.Layout.{events_of, layout_of};
-ghost use Rattle.std.specs.Prelude.{◌≡◌, ◌≤◌, ◌-◌, [], ◌∷◌, ℕ, List, IfOk, OnOk, option_map, slice_get, true};
+ghost use Rattle.std.specs.Prelude.{◌≡◌, ◌≤◌, ◌-◌, [], ◌∷◌, ℕ, List, IfOk, OnOk, slice_get, true};
 
 use crate::due::choices::put_choices;
 use crate::due::found::put_found;
 use crate::due::texts::{put_due_entry, put_due_line, put_step};
 use crate::journal::{reach, reach_end};
+use crate::refusals::line_at;
 use am_check::step_event;
 use am_check_lines::parse_line;
 use am_cluster_scripted::ScriptedCluster;
@@ -110,23 +111,6 @@ pub(crate) fn found_state(
         return Err(NoMemory);
     };
     found_text(alloc, &cluster, scenario, event, condition)
-}
-
-// The line at a place of a text, the first at 0, if it has so many.
-fn line_at(text: &[u8], place: u32) -> Option<&[u8]>
-    ensures { option_map (λ line. line.now) result ≡ slice_get (lines_of text.now) place }
-{
-    let mut rest = text;
-    let mut left = place;
-    while left > 0 {
-        let (_, after) = next_line(rest)?;
-        rest = after;
-        left -= 1;
-    }
-    match next_line(rest) {
-        Some((line, _)) => Some(line),
-        None => None,
-    }
 }
 
 fn line_text(alloc: Global, text: &[u8], line: u32) -> Result<Vec<u8>, AllocError>
