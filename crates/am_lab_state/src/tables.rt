@@ -124,12 +124,7 @@ fn put_kind(
         HandlerKind::Note => put_line(
             out,
             "endpoint",
-            &[
-                small(end.0),
-                Text("handler"),
-                small(index),
-                Text("note"),
-            ],
+            &[small(end.0), Text("handler"), small(index), Text("note")],
         ),
         HandlerKind::Echo(to) => put_replying(out, end, index, "echo", to),
         HandlerKind::Add(to) => put_replying(out, end, index, "add", to),
