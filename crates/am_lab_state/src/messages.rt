@@ -117,10 +117,8 @@ fn put_queues(
 ) -> Result<(), NoMemory>
     ensures { OnOk result (out.new.items ≡ out.old.items ++ flat_map (queued_line end) body.now.body.replies ++ flat_map (queued_line end) body.now.body.requests) }
 {
-    let replies = body.replies(alloc)?;
-    put_queue(out, end, &replies)?;
-    let requests = body.requests(alloc)?;
-    put_queue(out, end, &requests)?;
+    put_queue(out, end, &body.replies(alloc)?)?;
+    put_queue(out, end, &body.requests(alloc)?)?;
     Ok(())
 }
 
@@ -133,8 +131,7 @@ fn put_flying_of(
 ) -> Result<(), NoMemory>
     ensures { OnOk result (out.new.items ≡ out.old.items ++ flat_map (flying_line end) body.now.body.in_flight) }
 {
-    let flying = flights(alloc, &body.block, List::InFlight)?;
-    put_flights(out, end, &flying)?;
+    put_flights(out, end, &flights(alloc, &body.block, List::InFlight)?)?;
     Ok(())
 }
 
@@ -143,10 +140,8 @@ fn put_flying_of(
 fn put_come(out: &mut Vec<u8>, alloc: Global, end: EndpointId, body: &Body) -> Result<(), NoMemory>
     ensures { OnOk result (out.new.items ≡ out.old.items ++ flat_map (notice_line end) body.now.body.notices ++ flat_map (received_line end) body.now.body.received) }
 {
-    let notices = body.notices(alloc)?;
-    put_notices(out, end, &notices)?;
-    let received = body.received(alloc)?;
-    put_arrivals(out, end, &received)?;
+    put_notices(out, end, &body.notices(alloc)?)?;
+    put_arrivals(out, end, &body.received(alloc)?)?;
     Ok(())
 }
 

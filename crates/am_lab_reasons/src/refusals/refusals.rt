@@ -60,8 +60,7 @@ fn put_mark(out: &mut Vec<u8>, alloc: Global, at: usize) -> Result<(), AllocErro
     ensures { OnOk result (out.new.items ≡ out.old.items ++ mark at) }
 {
     put_word(out, Text("  "))?;
-    let spaces = blanks(alloc, at)?;
-    out.extend_from_slice(&spaces)?;
+    out.extend_from_slice(&blanks(alloc, at)?)?;
     put_word(out, Text("^\n"))
 }
 
@@ -100,8 +99,7 @@ fn put_stands_behind(
 ) -> Result<(), NoMemory>
     ensures { OnOk result (out.new.items ≡ out.old.items ++ words.stands form number (before.now ++ line.now ++ codes " ")) }
 {
-    let more = joined(alloc, line, b" ")?;
-    let text = joined(alloc, before, &more)?;
+    let text = joined(alloc, before, &joined(alloc, line, b" ")?)?;
     put_stands(out, alloc, form, number, &text)
 }
 

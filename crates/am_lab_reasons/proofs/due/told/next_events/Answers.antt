@@ -8,7 +8,7 @@ use Rattle.am_lab_reasons.proofs.due.told.next_events.Goals as goal
 
 pub returns : goal.returns
 returns c =
-    let run = c.in_ok-run.run in
+    let run = c.in_ok-run.run' in
     let at = c.in_ok-run.ensures.at in
     text_told c.choices_text.result (choices Forms.Run run.scenario run.journal) (MightCome Forms.Run c.args.scenario.now c.args.bytes.now c.args.line)
     (λ out p. record {
