@@ -1,6 +1,7 @@
 -- What is left of a journal that is made again from its lines.
-use Rattle.std.proofs.Common.{◌≡◌, ℕ, ◌+◌, ◌-◌, ◌<◌, List, [], ◌∷◌, ◌++◌, drop, length, map, true, Option, Some, refl, sym, ap, ◌∙◌, subst, arith}
+use Rattle.std.proofs.Common.{◌≡◌, ℕ, ◌+◌, ◌-◌, ◌<◌, List, [], ◌∷◌, ◌++◌, drop, length, map, true, Option, Some, Result, Ok, Err, refl, sym, ap, ◌∙◌, subst, arith}
 use Rattle.std.proofs.Common.{append_assoc}
+use Rattle.std.specs.Prelude.{IfOk}
 use Rattle.std.proofs.lemmas.List.{append-nil}
 use Rattle.am_office_entries.specs.declared.Event.{Event}
 use Rattle.am_office_entries.specs.declared.Entry.{Entry}
@@ -126,3 +127,9 @@ end_lines layout bytes lines count h is e =
 
 pub count_same : (bytes : List ℕ) (count long : ℕ) → count_of (lines_of bytes) ≡ Some count → count_of (lines_of bytes) ≡ Some long → long ≡ count
 count_same bytes count long e f = one_count long count (count_of (lines_of bytes)) f e
+
+-- ---- a journal that is given
+
+pub same_if : {E : Type 0} (r : Result (List Entry) E) (a b : List Entry) → a ≡ b → IfOk r (λ (j : List Entry). j ≡ a) → IfOk r (λ (j : List Entry). j ≡ b)
+same_if (Ok j) a b e h = h ∙ e
+same_if (Err x) a b e h = tt

@@ -1,4 +1,5 @@
 pub mod Joined
+pub mod Naming
 pub mod Receiving
 pub mod Reported
 pub mod Again

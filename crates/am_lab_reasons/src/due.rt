@@ -14,6 +14,7 @@ pub(crate) mod found;
 mod texts;
 mod told;
 
+pub use crate::due::found::put_head;
 use crate::due::told::{due_entry, due_line, found_state, next_events, next_step};
 use am_check::{CheckWhat, place_of};
 use am_names::NoMemory;

@@ -3,4 +3,4 @@
 mod plays;
 mod reaches;
 
-pub use reaches::{journal_of, reach, reach_end};
+pub use reaches::{journal_in, journal_of, reach, reach_end};

@@ -7,4 +7,5 @@ mod places;
 mod refusals;
 mod words;
 
+pub(crate) use crate::refusals::cuts::line_at;
 pub use crate::refusals::refusals::{put_refusal, put_source};

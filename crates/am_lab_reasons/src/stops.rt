@@ -73,8 +73,7 @@ fn put_found_if(
 fn put_front(out: &mut Vec<u8>, alloc: Global, cluster: &Cluster) -> Result<(), NoMemory>
     ensures { OnOk result (out.new.items ≡ out.old.items ++ flat_map line_of cluster.now.journal) }
 {
-    let journal = cluster.journal(alloc)?;
-    let lines = journal_lines(alloc, &journal)?;
+    let lines = journal_lines(alloc, &cluster.journal(alloc)?)?;
     out.extend_from_slice(&lines)?;
     Ok(())
 }

@@ -3,7 +3,6 @@ pub mod Asking
 pub mod Following
 pub mod Fronting
 pub mod Holding
-pub mod Naming
 pub mod Reading
 pub mod Taking
 pub mod Writing

@@ -3,7 +3,6 @@ use Rattle.std.specs.Prelude.{ℕ, Bool, true, false, Option, Some, None, List, 
 use Rattle.std.specs.Fmt.{decimal}
 use Rattle.std.specs.List.{flat_map, range_with_len}
 use Rattle.am_names.specs.declared.EndpointId.{EndpointId}
-use Rattle.am_names.specs.declared.Message.{Message}
 use Rattle.am_names.specs.declared.NodeId.{NodeId}
 use Rattle.am_names.specs.declared.Tag.{Tag}
 use Rattle.am_office_entries.specs.declared.Entry.{Entry}
@@ -11,7 +10,6 @@ use Rattle.am_office_entries.specs.declared.HandlerKind.{HandlerKind}
 use Rattle.am_office_entries.specs.declared.HandlerKind.TheVariants.{Note, Echo, Add}
 use Rattle.am_model.specs.declared.Awaited.{Awaited}
 use Rattle.am_model.specs.declared.Flying.{Flying}
-use Rattle.am_model.specs.declared.Head.{Head}
 use Rattle.am_model.specs.declared.Mapping.{Mapping}
 use Rattle.am_model.specs.declared.Notice.{Notice}
 use Rattle.am_model.specs.declared.Queued.{Queued}
@@ -19,20 +17,9 @@ use Rattle.am_model.specs.Calls.{records_at}
 use Rattle.am_model.specs.Endpoint.{Body, State, entry_at, is_on_disk}
 use Rattle.am_model.specs.History.{state_of}
 use Rattle.am_model.specs.Layout.{Layout, home}
-use Rattle.am_office_text.specs.Words.{Word, kind, line, serial, spaced, tag, why}
-use Rattle.am_lab_reasons.specs.Due.Found.{flag_words, place_words}
-
--- a line of an endpoint, with what is told of it
-abbrev pub end_line : EndpointId → List Word → List ℕ
-end_line e words = line (codes "endpoint") (decimal e.0 ∷ words)
-
--- an endpoint and its node
-unfoldable pub node_words : EndpointId → NodeId → List ℕ
-node_words e node = codes "endpoint" ++ spaced (decimal e.0 ∷ codes "node" ∷ decimal node.0 ∷ [])
-
--- where it lies, and how it stands
-abbrev pub head_line : EndpointId → NodeId → Head → List ℕ
-head_line e node head = node_words e node ++ spaced (place_words head.place) ++ flag_words head ++ codes "\n"
+use Rattle.am_office_text.specs.Words.{Word, kind, serial, tag, why}
+use Rattle.am_lab_arrivals.specs.Arrivals.{end_line, received_line}
+use Rattle.am_lab_reasons.specs.Due.Found.{head_line}
 
 -- ---- its numbers
 
@@ -90,9 +77,12 @@ kind_words Note = codes "note" ∷ []
 kind_words (Echo to) = codes "echo" ∷ decimal to ∷ []
 kind_words (Add to) = codes "add" ∷ decimal to ∷ []
 
+abbrev pub handler_line : EndpointId → ℕ → List Word → List ℕ
+handler_line e index words = end_line e (codes "handler" ∷ decimal index ∷ words)
+
 abbrev pub handler_if : EndpointId → ℕ → Option HandlerKind → List ℕ
 handler_if e index None = []
-handler_if e index (Some kind) = end_line e (codes "handler" ∷ decimal index ∷ kind_words kind)
+handler_if e index (Some kind) = handler_line e index (kind_words kind)
 
 -- a handler, if it is set
 abbrev pub handler_at : EndpointId → Body → ℕ → List ℕ
@@ -139,10 +129,6 @@ flying_line e f =
 abbrev pub notice_line : EndpointId → Notice → List ℕ
 notice_line e n =
     end_line e (codes "notice" ∷ kind n.message.kind ∷ serial n.message.serial ∷ codes "bounces" ∷ decimal n.bounces ∷ why n.why ∷ [])
-
--- a message that was received and not polled
-abbrev pub received_line : EndpointId → Message → List ℕ
-received_line e m = end_line e (codes "received" ∷ kind m.kind ∷ serial m.serial ∷ [])
 
 -- its replies and then its requests that are to be sent, its messages in flight, those that came back, and those received, each list
 -- from its front on

@@ -5,10 +5,10 @@ ghost use Rattle.am_lab_state.specs.Ends.{accepted_line, body_in_memory, body_li
 ghost use Rattle.am_model.specs.Endpoint.{is_on_disk};
 ghost use Rattle.std.specs.Prelude.{◌≡◌, ◌++◌, OnOk};
 
-use crate::heads::put_head;
 use crate::messages::put_messages;
 use crate::tables::put_tables;
 use am_endpoint::{Body, Endpoint};
+use am_lab_reasons::due::put_head;
 use am_machine::Cluster;
 use am_names::{EndpointId, NoMemory, Tag};
 use am_office_text::LinePiece::{Number, Text};

@@ -9,7 +9,6 @@ mod differences;
 mod ends;
 mod flights;
 mod fronts;
-mod heads;
 mod links;
 mod messages;
 mod named;

@@ -100,9 +100,8 @@ fn put_link(
     if sent == 0 {
         return Ok(());
     }
-    let received = cluster.received(from, to);
+    put_counts(out, from, to, sent, cluster.received(from, to))?;
     let left = unreceived(alloc, &scenario.plan, emitted, entries, from, to)?;
-    put_counts(out, from, to, sent, received)?;
     put_unreceived(out, from, to, &left)?;
     Ok(())
 }

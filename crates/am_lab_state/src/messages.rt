@@ -1,14 +1,16 @@
 //! The messages of an endpoint.
 
-ghost use Rattle.am_lab_state.specs.Ends.{answered_word, flying_line, message_lines, notice_line, queued_line, received_line};
+ghost use Rattle.am_lab_arrivals.specs.Arrivals.{received_line};
+ghost use Rattle.am_lab_state.specs.Ends.{answered_word, flying_line, message_lines, notice_line, queued_line};
 ghost use Rattle.std.specs.List.{flat_map};
 ghost use Rattle.std.specs.Prelude.{◌≡◌, ◌++◌, OnOk};
 
 use crate::flights::flights;
 use am_block::List;
 use am_endpoint::Body;
+use am_lab_arrivals::put_arrivals;
 use am_model::{Flying, Notice, Queued};
-use am_names::{EndpointId, Message, NoMemory};
+use am_names::{EndpointId, NoMemory};
 use am_office_text::LinePiece::Text;
 use am_office_text::{LinePiece, kind_word, put_line, small, why_word};
 use std::alloc::{AllocError, Global};
@@ -105,32 +107,6 @@ fn put_notices(out: &mut Vec<u8>, end: EndpointId, notices: &[Notice]) -> Result
     Ok(())
 }
 
-// Appends a message that was received and not polled.
-fn put_arrival(out: &mut Vec<u8>, end: EndpointId, message: &Message) -> Result<(), AllocError>
-    ensures { OnOk result (out.new.items ≡ out.old.items ++ received_line end message.now) }
-{
-    put_line(
-        out,
-        "endpoint",
-        &[
-            small(end.0),
-            Text("received"),
-            Text(kind_word(message.kind)),
-            LinePiece::Serial(message.serial),
-        ],
-    )
-}
-
-// Appends the messages that were received and not polled.
-fn put_arrivals(out: &mut Vec<u8>, end: EndpointId, received: &[Message]) -> Result<(), AllocError>
-    ensures { OnOk result (out.new.items ≡ out.old.items ++ flat_map (received_line end) received.now) }
-{
-    for message in received {
-        put_arrival(out, end, message)?;
-    }
-    Ok(())
-}
-
 // Appends the replies and then the requests that are to be sent.
 #[tactic(auto, using(std::proofs::Common::append_assoc))]
 fn put_queues(
@@ -141,10 +117,8 @@ fn put_queues(
 ) -> Result<(), NoMemory>
     ensures { OnOk result (out.new.items ≡ out.old.items ++ flat_map (queued_line end) body.now.body.replies ++ flat_map (queued_line end) body.now.body.requests) }
 {
-    let replies = body.replies(alloc)?;
-    put_queue(out, end, &replies)?;
-    let requests = body.requests(alloc)?;
-    put_queue(out, end, &requests)?;
+    put_queue(out, end, &body.replies(alloc)?)?;
+    put_queue(out, end, &body.requests(alloc)?)?;
     Ok(())
 }
 
@@ -157,8 +131,7 @@ fn put_flying_of(
 ) -> Result<(), NoMemory>
     ensures { OnOk result (out.new.items ≡ out.old.items ++ flat_map (flying_line end) body.now.body.in_flight) }
 {
-    let flying = flights(alloc, &body.block, List::InFlight)?;
-    put_flights(out, end, &flying)?;
+    put_flights(out, end, &flights(alloc, &body.block, List::InFlight)?)?;
     Ok(())
 }
 
@@ -167,10 +140,8 @@ fn put_flying_of(
 fn put_come(out: &mut Vec<u8>, alloc: Global, end: EndpointId, body: &Body) -> Result<(), NoMemory>
     ensures { OnOk result (out.new.items ≡ out.old.items ++ flat_map (notice_line end) body.now.body.notices ++ flat_map (received_line end) body.now.body.received) }
 {
-    let notices = body.notices(alloc)?;
-    put_notices(out, end, &notices)?;
-    let received = body.received(alloc)?;
-    put_arrivals(out, end, &received)?;
+    put_notices(out, end, &body.notices(alloc)?)?;
+    put_arrivals(out, end, &body.received(alloc)?)?;
     Ok(())
 }
 

@@ -66,10 +66,8 @@ fn name_waiting(named: &mut Vec<Serial>, alloc: Global, body: &Body) -> Result<(
     ensures { OnOk result (named.new.items ≡ named.old.items ++ records_named body.now.body.awaited ++ queue_named body.now.body.replies ++ queue_named body.now.body.requests) }
 {
     name_records(named, body.translate.records())?;
-    let replies = body.replies(alloc)?;
-    name_queue(named, &replies)?;
-    let requests = body.requests(alloc)?;
-    name_queue(named, &requests)?;
+    name_queue(named, &body.replies(alloc)?)?;
+    name_queue(named, &body.requests(alloc)?)?;
     Ok(())
 }
 
@@ -78,12 +76,9 @@ fn name_waiting(named: &mut Vec<Serial>, alloc: Global, body: &Body) -> Result<(
 fn name_moving(named: &mut Vec<Serial>, alloc: Global, body: &Body) -> Result<(), NoMemory>
     ensures { OnOk result (named.new.items ≡ named.old.items ++ flights_named body.now.body.in_flight ++ notices_named body.now.body.notices ++ arrivals_named body.now.body.received) }
 {
-    let flying = flights(alloc, &body.block, List::InFlight)?;
-    name_flights(named, &flying)?;
-    let notices = body.notices(alloc)?;
-    name_notices(named, &notices)?;
-    let received = body.received(alloc)?;
-    name_arrivals(named, &received)?;
+    name_flights(named, &flights(alloc, &body.block, List::InFlight)?)?;
+    name_notices(named, &body.notices(alloc)?)?;
+    name_arrivals(named, &body.received(alloc)?)?;
     Ok(())
 }
 

@@ -112,11 +112,24 @@ fn put_image(
 ) -> Result<(), AllocError>
     ensures { OnOk result (out.new.items ≡ out.old.items ++ image_line node end lies_there) }
 {
-    let [node, disk, holds, end] = [small(node.0), Text("disk"), Text("holds"), small(end.0)];
     if lies_there {
-        put_line(out, "node", &[node, disk, holds, end])
+        put_line(
+            out,
+            "node",
+            &[small(node.0), Text("disk"), Text("holds"), small(end.0)],
+        )
     } else {
-        put_line(out, "node", &[node, disk, holds, end, Text("old")])
+        put_line(
+            out,
+            "node",
+            &[
+                small(node.0),
+                Text("disk"),
+                Text("holds"),
+                small(end.0),
+                Text("old"),
+            ],
+        )
     }
 }
 

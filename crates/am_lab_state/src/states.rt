@@ -13,6 +13,7 @@ use crate::ends::put_end_lines;
 use crate::links::put_links;
 use crate::nodes::put_stores;
 use crate::threads::put_threads;
+use am_lab_reasons::journal::journal_in;
 use am_machine::Cluster;
 use am_names::NoMemory;
 use am_office_entries::Entry;
@@ -108,7 +109,6 @@ pub(crate) fn state_text(
     requires few { length cluster.now.journal < 2 ^ 31 }
     ensures { IfOk result (λ text. text.items ≡ state_text scenario.now cluster.now.journal) }
 {
-    let logged = cluster.journal(alloc)?;
-    let journal = logged.copied(alloc)?;
+    let journal = journal_in(alloc, cluster)?;
     text_of(alloc, cluster, scenario, &journal.entries)
 }

@@ -1,10 +1,11 @@
 //! The tables of an endpoint: its mapped indexes, its handlers, and its records.
 
 ghost use Rattle.am_endpoint_body.specs.Views.{table_of};
-ghost use Rattle.am_lab_state.specs.Ends.{arrived_word, credits_word, handler_at, handler_if, mapping_at, mapping_if, mapping_line, record_line, table_lines};
+ghost use Rattle.am_lab_state.specs.Ends.{arrived_word, credits_word, handler_at, handler_if, handler_line, mapping_at, mapping_if, mapping_line, record_line, table_lines};
 ghost use Rattle.am_translate.specs.declared.Target.{Target as Aim};
+ghost use Rattle.std.specs.Fmt.{decimal};
 ghost use Rattle.std.specs.List.{flat_map, range_with_len};
-ghost use Rattle.std.specs.Prelude.{◌≡◌, ◌<◌, ◌++◌, OnOk};
+ghost use Rattle.std.specs.Prelude.{◌≡◌, ◌<◌, [], ◌∷◌, ◌++◌, OnOk};
 
 use am_endpoint::Body;
 use am_model::Awaited;
@@ -87,6 +88,29 @@ fn put_indexes(
     Ok(())
 }
 
+// Appends a handler whose replies have this handler.
+fn put_replying(
+    out: &mut Vec<u8>,
+    end: EndpointId,
+    index: u8,
+    kind: &'static str,
+    to: u8,
+) -> Result<(), AllocError>
+    ensures { OnOk result (out.new.items ≡ out.old.items ++ handler_line end index (kind.now ∷ decimal to ∷ [])) }
+{
+    put_line(
+        out,
+        "endpoint",
+        &[
+            small(end.0),
+            Text("handler"),
+            small(index),
+            Text(kind),
+            small(to),
+        ],
+    )
+}
+
 // Appends a handler that is set.
 fn put_kind(
     out: &mut Vec<u8>,
@@ -96,20 +120,14 @@ fn put_kind(
 ) -> Result<(), AllocError>
     ensures { OnOk result (out.new.items ≡ out.old.items ++ handler_if end index (Some kind)) }
 {
-    let handler = [small(end.0), Text("handler"), small(index)];
-    let [end, word, index] = handler;
     match kind {
-        HandlerKind::Note => put_line(out, "endpoint", &[end, word, index, Text("note")]),
-        HandlerKind::Echo(to) => put_line(
+        HandlerKind::Note => put_line(
             out,
             "endpoint",
-            &[end, word, index, Text("echo"), small(to)],
+            &[small(end.0), Text("handler"), small(index), Text("note")],
         ),
-        HandlerKind::Add(to) => put_line(
-            out,
-            "endpoint",
-            &[end, word, index, Text("add"), small(to)],
-        ),
+        HandlerKind::Echo(to) => put_replying(out, end, index, "echo", to),
+        HandlerKind::Add(to) => put_replying(out, end, index, "add", to),
     }
 }
 

@@ -27,20 +27,23 @@ word_if true text = text
 word_if false text = []
 
 -- an endpoint and its node
-unfoldable pub end_words : EndpointId → NodeId → List ℕ
-end_words e node = codes "found endpoint" ++ spaced (decimal e.0 ∷ codes "node" ∷ decimal node.0 ∷ [])
+unfoldable pub node_words : EndpointId → NodeId → List ℕ
+node_words e node = codes "endpoint" ++ spaced (decimal e.0 ∷ codes "node" ∷ decimal node.0 ∷ [])
 
 -- whether it is wanted, draining or closed
 unfoldable pub flag_words : Head → List ℕ
 flag_words head = word_if head.wanted (codes " wanted") ++ word_if head.draining (codes " draining") ++ word_if head.closed (codes " closed")
 
 -- an endpoint: its node, where it lies, and how it stands
-abbrev pub end_line : EndpointId → NodeId → Head → List ℕ
-end_line e node head = end_words e node ++ spaced (place_words head.place) ++ flag_words head ++ codes "\n"
+abbrev pub head_line : EndpointId → NodeId → Head → List ℕ
+head_line e node head = node_words e node ++ spaced (place_words head.place) ++ flag_words head ++ codes "\n"
+
+abbrev pub found_line : EndpointId → NodeId → Head → List ℕ
+found_line e node head = codes "found " ++ head_line e node head
 
 abbrev pub found_by : EndpointId → Option NodeId → Head → List ℕ
 found_by e None head = []
-found_by e (Some node) head = end_line e node head
+found_by e (Some node) head = found_line e node head
 
 -- an endpoint as it stands after these entries
 abbrev pub found_end : Layout → List Entry → EndpointId → List ℕ

@@ -1,6 +1,6 @@
 //! What an event that isn't enabled finds in the state of a cluster.
 
-ghost use Rattle.am_lab_reasons.specs.Due.Found.{end_line, end_words, flag_words, found, found_end, found_in, found_link, network_line, place_words, word_if};
+ghost use Rattle.am_lab_reasons.specs.Due.Found.{flag_words, found, found_end, found_in, found_line, found_link, head_line, network_line, node_words, place_words, word_if};
 ghost use Rattle.am_model.specs.Channels.{emitted};
 ghost use Rattle.am_model.specs.History.{is_in_range};
 ghost use Rattle.am_model_scripts.specs.Layout.{is_direct, layout_of};
@@ -38,11 +38,11 @@ fn put_if(out: &mut Vec<u8>, test: bool, text: &'static str) -> Result<(), Alloc
     }
 }
 
-#[tactic(auto, using(std::proofs::Common::append_assoc), unfolding(crate::specs::Due::Found::end_words))]
-fn put_end_words(out: &mut Vec<u8>, end: EndpointId, node: NodeId) -> Result<(), AllocError>
-    ensures { OnOk result (out.new.items ≡ out.old.items ++ end_words end node) }
+#[tactic(auto, using(std::proofs::Common::append_assoc), unfolding(crate::specs::Due::Found::node_words))]
+fn put_node_words(out: &mut Vec<u8>, end: EndpointId, node: NodeId) -> Result<(), AllocError>
+    ensures { OnOk result (out.new.items ≡ out.old.items ++ node_words end node) }
 {
-    put_word(out, Text("found endpoint"))?;
+    put_word(out, Text("endpoint"))?;
     put_spaced(out, &[small(end.0), Text("node"), small(node.0)])
 }
 
@@ -55,14 +55,32 @@ fn put_flags(out: &mut Vec<u8>, head: Head) -> Result<(), AllocError>
     put_if(out, head.closed, " closed")
 }
 
+/// Appends a line of an endpoint: its node, where it lies, and how it stands.
 #[tactic(auto, using(std::proofs::Common::append_assoc))]
-fn put_head(out: &mut Vec<u8>, end: EndpointId, node: NodeId, head: Head) -> Result<(), AllocError>
-    ensures { OnOk result (out.new.items ≡ out.old.items ++ end_line end node head) }
+pub fn put_head(
+    out: &mut Vec<u8>,
+    end: EndpointId,
+    node: NodeId,
+    head: Head,
+) -> Result<(), AllocError>
+    ensures { OnOk result (out.new.items ≡ out.old.items ++ head_line end node head) }
 {
-    put_end_words(out, end, node)?;
+    put_node_words(out, end, node)?;
     put_place(out, head.place)?;
     put_flags(out, head)?;
     put_end(out)
+}
+
+fn put_found_head(
+    out: &mut Vec<u8>,
+    end: EndpointId,
+    node: NodeId,
+    head: Head,
+) -> Result<(), AllocError>
+    ensures { OnOk result (out.new.items ≡ out.old.items ++ found_line end node head) }
+{
+    put_word(out, Text("found "))?;
+    put_head(out, end, node, head)
 }
 
 // Appends an endpoint as it stands.
@@ -71,7 +89,7 @@ fn put_found_end(out: &mut Vec<u8>, cluster: &Cluster, id: EndpointId) -> Result
 {
     match cluster.end(id) {
         Some(end) => {
-            put_head(out, id, end.node(), end.head())?;
+            put_found_head(out, id, end.node(), end.head())?;
             Ok(())
         }
         None => Err(NoMemory),

@@ -2,7 +2,7 @@
 
 ghost use Rattle.am_check.specs.Follows.{ids_of};
 ghost use Rattle.am_check.specs.Verdict.{HasJournal};
-ghost use Rattle.am_lab_reasons.specs.Due.Choices.{step_line};
+ghost use Rattle.am_lab_reasons.specs.Due.Choices.{choices, step_line};
 ghost use Rattle.am_lab_reasons.specs.Due.Due.{DueEntry, DueLine, FoundState, HasEvent, IsBehindJournal, MightCome, StandsAt};
 ghost use Rattle.am_lab_reasons.specs.Due.Found.{found};
 ghost use Rattle.am_lab_reasons.specs.Due.Texts.{due_entry, due_line};
@@ -17,12 +17,13 @@ ghost use Rattle.am_scenario_types.specs.Lawful.{IsLawful};
 ghost use Rattle.am_scenario_types.specs.declared.parts.Form.TheVariants as Forms;
 ghost use Rattle.am_scenario_types.specs.declared.parts.Network.TheVariants.{Packet};
 ghost use Rattle.am_model_scripts.specs.Layout.{events_of, layout_of};
-ghost use Rattle.std.specs.Prelude.{◌≡◌, ◌≤◌, ◌-◌, [], ◌∷◌, ℕ, List, IfOk, OnOk, option_map, slice_get, true};
+ghost use Rattle.std.specs.Prelude.{◌≡◌, ◌≤◌, ◌-◌, [], ◌∷◌, ℕ, List, IfOk, OnOk, slice_get, true};
 
 use crate::due::choices::put_choices;
 use crate::due::found::put_found;
 use crate::due::texts::{put_due_entry, put_due_line, put_step};
-use crate::journal::{reach, reach_end};
+use crate::journal::{journal_in, reach, reach_end};
+use crate::refusals::line_at;
 use am_check::step_event;
 use am_check_lines::parse_line;
 use am_cluster_scripted::ScriptedCluster;
@@ -30,7 +31,7 @@ use am_lexer::next_line;
 use am_machine::Cluster;
 use am_main_lines::report_of;
 use am_names::NoMemory;
-use am_office_entries::{Condition, Entry, Event};
+use am_office_entries::{Condition, Entry, Event, Journal};
 use am_scenario::Scenario;
 use std::alloc::{AllocError, Global};
 
@@ -112,23 +113,6 @@ pub(crate) fn found_state(
     found_text(alloc, &cluster, scenario, event, condition)
 }
 
-// The line at a place of a text, the first at 0, if it has so many.
-fn line_at(text: &[u8], place: u32) -> Option<&[u8]>
-    ensures { option_map (λ line. line.now) result ≡ slice_get (lines_of text.now) place }
-{
-    let mut rest = text;
-    let mut left = place;
-    while left > 0 {
-        let (_, after) = next_line(rest)?;
-        rest = after;
-        left -= 1;
-    }
-    match next_line(rest) {
-        Some((line, _)) => Some(line),
-        None => None,
-    }
-}
-
 fn line_text(alloc: Global, text: &[u8], line: u32) -> Result<Vec<u8>, AllocError>
     ensures { IfOk result (λ out. out.items ≡ due_line (slice_get (lines_of text.now) (line - 1))) }
 {
@@ -152,6 +136,19 @@ fn cluster_report(
     }
 }
 
+// The line with this number of the report of the journal of a cluster.
+fn reported_line(
+    alloc: Global,
+    scenario: &Scenario,
+    cluster: &Cluster,
+    line: u32,
+) -> Result<Vec<u8>, NoMemory>
+    ensures { IfOk result (λ out. out.items ≡ due_line (slice_get (lines_of (texts.report (ids_of scenario.now) cluster.now.journal)) (line - 1))) }
+{
+    let text = cluster_report(alloc, scenario, cluster)?;
+    Ok(line_text(alloc, &text, line)?)
+}
+
 /// The line that should stand with this number in the report of the journal that its lines tell.
 pub(crate) fn due_line(
     alloc: Global,
@@ -165,11 +162,7 @@ pub(crate) fn due_line(
 {
     let mut cluster = Cluster::new(alloc, scenario)?;
     reach_end(&mut cluster, bytes)?;
-    let text = cluster_report(alloc, scenario, &cluster)?;
-    match line_text(alloc, &text, line) {
-        Ok(out) => Ok(out),
-        Err(_) => Err(NoMemory),
-    }
+    reported_line(alloc, scenario, &cluster, line)
 }
 
 /// The step that might have come in place of a line.
@@ -197,6 +190,39 @@ fn follow(run: &mut ScriptedCluster, entries: &[Entry]) -> Result<(), NoMemory>
     Ok(())
 }
 
+// A cluster that runs the scripts of a scenario, in which these entries are made.
+fn followed<'a>(
+    alloc: Global,
+    scenario: &'a Scenario,
+    entries: &[Entry],
+) -> Result<ScriptedCluster<'a>, NoMemory>
+    requires lawful { IsLawful scenario.now }
+    requires packet { scenario.now.network ≡ Packet }
+    requires again { EachAfter (IsMadeAgain (layout_of scenario.now)) [] entries.now }
+    ensures scenario { IfOk result (λ run. run.scenario ≡ scenario.now) }
+    ensures journal { IfOk result (λ run. run.journal ≡ entries.now) }
+{
+    let mut run = ScriptedCluster::new(alloc, scenario)?;
+    follow(&mut run, entries)?;
+    Ok(run)
+}
+
+// The journal that the lines in front of a line tell.
+fn journal_at(
+    alloc: Global,
+    scenario: &Scenario,
+    bytes: &[u8],
+    line: u32,
+) -> Result<Journal, NoMemory>
+    requires lawful { IsLawful scenario.now }
+    requires place { IsBehindJournal Forms.Run scenario.now bytes.now line }
+    ensures { (place : IsBehindJournal Forms.Run scenario.now bytes.now line) → IfOk result (λ journal. journal ≡ place.journal) }
+{
+    let mut cluster = Cluster::new(alloc, scenario)?;
+    reach(&mut cluster, bytes, line)?;
+    journal_in(alloc, &cluster)
+}
+
 // The cluster that runs the scripts of a scenario, as it stands in front of a line.
 fn follow_line<'a>(
     alloc: Global,
@@ -210,13 +236,16 @@ fn follow_line<'a>(
     ensures scenario { IfOk result (λ run. run.scenario ≡ scenario.now) }
     ensures at { IfOk result (λ run. (left : List (List ℕ)) × StandsAt Forms.Run scenario.now bytes.now line run.journal left) }
 {
-    let mut cluster = Cluster::new(alloc, scenario)?;
-    reach(&mut cluster, bytes, line)?;
-    let logged = cluster.journal(alloc)?;
-    let journal = logged.copied(alloc)?;
-    let mut run = ScriptedCluster::new(alloc, scenario)?;
-    follow(&mut run, &journal.entries)?;
-    Ok(run)
+    let journal = journal_at(alloc, scenario, bytes, line)?;
+    followed(alloc, scenario, &journal.entries)
+}
+
+fn choices_text(alloc: Global, run: &ScriptedCluster) -> Result<Vec<u8>, NoMemory>
+    ensures { IfOk result (λ out. out.items ≡ choices Forms.Run run.now.scenario run.now.journal) }
+{
+    let mut out = Vec::new(alloc);
+    put_choices(&mut out, run)?;
+    Ok(out)
 }
 
 /// The events that might have come in a run in place of a line.
@@ -232,7 +261,5 @@ pub(crate) fn next_events(
     ensures { IfOk result (λ out. MightCome Forms.Run scenario.now bytes.now line out.items) }
 {
     let run = follow_line(alloc, scenario, bytes, line)?;
-    let mut out = Vec::new(alloc);
-    put_choices(&mut out, &run)?;
-    Ok(out)
+    choices_text(alloc, &run)
 }

@@ -46,6 +46,14 @@ pub fn reach_end(cluster: &mut Cluster, bytes: &[u8]) -> Result<(), NoMemory>
     }
 }
 
+/// The journal of a cluster, with its entries in it. `NoMemory` comes where there is none for it.
+pub fn journal_in(alloc: Global, cluster: &Cluster) -> Result<Journal, NoMemory>
+    ensures { IfOk result (λ journal. journal ≡ cluster.now.journal) }
+{
+    let logged = cluster.journal(alloc)?;
+    logged.copied(alloc)
+}
+
 /// The journal of a report of a scenario, made again from the report's lines. `NoMemory` comes where there is none for it.
 pub fn journal_of(alloc: Global, scenario: &Scenario, bytes: &[u8]) -> Result<Journal, NoMemory>
     requires few { length bytes.now < 2 ^ 31 }
@@ -56,6 +64,5 @@ pub fn journal_of(alloc: Global, scenario: &Scenario, bytes: &[u8]) -> Result<Jo
 {
     let mut cluster = Cluster::new(alloc, scenario)?;
     reach_end(&mut cluster, bytes)?;
-    let logged = cluster.journal(alloc)?;
-    logged.copied(alloc)
+    journal_in(alloc, &cluster)
 }

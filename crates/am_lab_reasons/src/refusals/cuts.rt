@@ -33,6 +33,20 @@ fn first_line(rest: &[u8]) -> Option<&[u8]>
     }
 }
 
+/// The line at a place of a text, the first at 0, if it has so many.
+pub(crate) fn line_at(text: &[u8], place: u32) -> Option<&[u8]>
+    ensures { option_map (λ line. line.now) result ≡ slice_get (lines_of text.now) place }
+{
+    let mut rest = text;
+    let mut left = place;
+    while left > 0 {
+        let (_, after) = next_line(rest)?;
+        rest = after;
+        left -= 1;
+    }
+    first_line(rest)
+}
+
 /// The line with this number, counted from 1, and the lines in front of it.
 #[tactic(auto, using(std::proofs::Common::append_assoc))]
 pub(crate) fn cut_at(alloc: Global, text: &[u8], number: u32) -> Result<Cut<'_>, AllocError>

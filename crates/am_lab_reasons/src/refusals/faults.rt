@@ -44,6 +44,20 @@ pub(crate) fn fault_in(
     }
 }
 
+/// What is wrong in the line with this number, which ends a text with another one behind it.
+pub(crate) fn fault_behind(
+    alloc: Global,
+    form: Form,
+    number: u32,
+    front: &[u8],
+    more: &[u8],
+) -> Result<Option<What>, NoMemory>
+    ensures { IfOk result (λ what. what ≡ fault_in form number (front.now ++ more.now)) }
+{
+    let text = joined(alloc, front, more)?;
+    fault_in(alloc, form, number, &text)
+}
+
 fn is_missing(what: Option<What>) -> bool
     ensures { result ≡ is_missing what }
 {
@@ -70,18 +84,26 @@ pub(crate) fn is_taken(what: Option<What>) -> bool
     }
 }
 
-/// Whether another word is read behind the text of a line.
-pub(crate) fn reads_on(
+// Whether another word is read behind the text of a line.
+fn reads_on(alloc: Global, form: Form, number: u32, text: &[u8]) -> Result<bool, NoMemory>
+    ensures { IfOk result (λ reads. reads ≡ reads_on form number text.now) }
+{
+    let what = fault_behind(alloc, form, number, text, b" ?")?;
+    Ok(!is_missing(what))
+}
+
+/// Whether another word is read behind a text with another one behind it, which ends in the text of a line.
+pub(crate) fn reads_behind(
     alloc: Global,
     form: Form,
     number: u32,
-    text: &[u8],
+    front: &[u8],
+    more: &[u8],
 ) -> Result<bool, NoMemory>
-    ensures { IfOk result (λ reads. reads ≡ reads_on form number text.now) }
+    ensures { IfOk result (λ reads. reads ≡ reads_on form number (front.now ++ more.now)) }
 {
-    let more = joined(alloc, text, b" ?")?;
-    let what = fault_in(alloc, form, number, &more)?;
-    Ok(!is_missing(what))
+    let text = joined(alloc, front, more)?;
+    reads_on(alloc, form, number, &text)
 }
 
 /// Whether a word may stand behind the text of a line.
@@ -94,10 +116,9 @@ pub(crate) fn may_stand(
 ) -> Result<bool, NoMemory>
     ensures { IfOk result (λ may. may ≡ may_stand form number front.now word.now) }
 {
-    let text = joined(alloc, front, word)?;
-    let what = fault_in(alloc, form, number, &text)?;
+    let what = fault_behind(alloc, form, number, front, word)?;
     if is_taken(what) {
-        reads_on(alloc, form, number, &text)
+        reads_behind(alloc, form, number, front, word)
     } else {
         Ok(false)
     }

@@ -4,7 +4,7 @@ ghost use Rattle.am_lab_reasons.specs.Refusals.Faults as rules;
 ghost use Rattle.am_lab_reasons.specs.Refusals.Places.{first_word, is_end, missing_word, place, wrong_byte, wrong_word};
 ghost use Rattle.std.specs.Prelude.{◌≡◌, ◌++◌, IfOk, not};
 
-use crate::refusals::faults::{fault_in, is_taken, joined, reads_on};
+use crate::refusals::faults::{fault_behind, is_taken, reads_behind};
 use am_names::NoMemory;
 use am_scenario::{Form, What};
 use std::alloc::Global;
@@ -42,8 +42,7 @@ fn is_wrong(
 ) -> Result<bool, NoMemory>
     ensures { IfOk result (λ wrong. wrong ≡ not (rules.is_taken (rules.fault_in form number (before.now ++ front.now)))) }
 {
-    let text = joined(alloc, before, front)?;
-    let what = fault_in(alloc, form, number, &text)?;
+    let what = fault_behind(alloc, form, number, before, front)?;
     Ok(!is_taken(what))
 }
 
@@ -97,8 +96,7 @@ pub(crate) fn place(
         What::NotText => Ok(wrong_byte(line)),
         What::Twice | What::TooMany => Ok(first_word(line)),
         What::Missing => {
-            let text = joined(alloc, before, line)?;
-            let behind = reads_on(alloc, form, number, &text)?;
+            let behind = reads_behind(alloc, form, number, before, line)?;
             Ok(missing_word(behind, line))
         }
         What::UnknownWord

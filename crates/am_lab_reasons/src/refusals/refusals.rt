@@ -10,8 +10,8 @@ ghost use Rattle.am_lexer.specs.Text.{has_bytes};
 ghost use Rattle.am_scenario.specs.Grammar.{grammar};
 ghost use Rattle.std.specs.Prelude.{◌≡◌, ◌++◌, IfOk, OnOk, Some, codes, map, option_map, replicate, take};
 
-use crate::refusals::cuts::{Cut, cut_at};
-use crate::refusals::faults::{joined, reads_on};
+use crate::refusals::cuts::{Cut, cut_at, line_at};
+use crate::refusals::faults::{joined, reads_behind};
 use crate::refusals::places::{first_word, place};
 use crate::refusals::words::put_stands;
 use am_names::NoMemory;
@@ -52,18 +52,15 @@ fn put_shown_line(out: &mut Vec<u8>, line: &[u8]) -> Result<(), AllocError>
 fn blanks(alloc: Global, count: usize) -> Result<Vec<u8>, AllocError>
     ensures { IfOk result (λ text. text.items ≡ replicate count 32) }
 {
-    let mut text = Vec::new(alloc);
-    text.resize(count, b' ')?;
-    Ok(text)
+    vec![in alloc; b' '; count]
 }
 
 #[tactic(auto, using(std::proofs::Common::append_assoc), unfolding(crate::specs::Refusals::Refusals::mark))]
 fn put_mark(out: &mut Vec<u8>, alloc: Global, at: usize) -> Result<(), AllocError>
     ensures { OnOk result (out.new.items ≡ out.old.items ++ mark at) }
 {
-    let spaces = blanks(alloc, at)?;
     put_word(out, Text("  "))?;
-    out.extend_from_slice(&spaces)?;
+    out.extend_from_slice(&blanks(alloc, at)?)?;
     put_word(out, Text("^\n"))
 }
 
@@ -102,8 +99,7 @@ fn put_stands_behind(
 ) -> Result<(), NoMemory>
     ensures { OnOk result (out.new.items ≡ out.old.items ++ words.stands form number (before.now ++ line.now ++ codes " ")) }
 {
-    let more = joined(alloc, line, b" ")?;
-    let text = joined(alloc, before, &more)?;
+    let text = joined(alloc, before, &joined(alloc, line, b" ")?)?;
     put_stands(out, alloc, form, number, &text)
 }
 
@@ -119,8 +115,7 @@ fn put_missing(
 ) -> Result<(), NoMemory>
     ensures { OnOk result (out.new.items ≡ out.old.items ++ stands_missing form number before.now line.now at (rules.reads_on form number (before.now ++ line.now))) }
 {
-    let text = joined(alloc, before, line)?;
-    if reads_on(alloc, form, number, &text)? {
+    if reads_behind(alloc, form, number, before, line)? {
         put_stands_behind(out, alloc, form, number, before, line)
     } else {
         put_stands_for(out, alloc, form, number, before, line, at)
@@ -303,8 +298,7 @@ pub fn put_source(
 ) -> Result<(), AllocError>
     ensures { OnOk result (out.new.items ≡ out.old.items ++ source_text number text.now) }
 {
-    let cut = cut_at(alloc, text, number)?;
-    match cut.line {
+    match line_at(text, number.saturating_sub(1)) {
         Some(line) => put_marked(out, alloc, line),
         None => Ok(()),
     }

@@ -6,7 +6,7 @@ ghost use Rattle.am_lexer.specs.Text.{words_of};
 ghost use Rattle.std.specs.List.{flat_map};
 ghost use Rattle.std.specs.Prelude.{◌≡◌, ◌++◌, IfOk, OnOk, codes, option_map};
 
-use crate::refusals::faults::{fault_in, joined, may_stand};
+use crate::refusals::faults::{fault_behind, may_stand};
 use am_lexer::next_word;
 use am_names::NoMemory;
 use am_office_text::LinePiece::Text;
@@ -135,8 +135,7 @@ fn put_range(
 fn are_declared(alloc: Global, form: Form, number: u32, front: &[u8]) -> Result<bool, NoMemory>
     ensures { IfOk result (λ are. are ≡ is_undeclared (rules.fault_in form number (front.now ++ codes "256"))) }
 {
-    let text = joined(alloc, front, b"256")?;
-    let what = fault_in(alloc, form, number, &text)?;
+    let what = fault_behind(alloc, form, number, front, b"256")?;
     Ok(is_undeclared(what))
 }
 

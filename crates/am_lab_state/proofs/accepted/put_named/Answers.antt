@@ -2,7 +2,7 @@ use Rattle.std.proofs.Common.{◌++◌, Option, ap, ◌∙◌, arith}
 use Rattle.am_lemmas.specs.Numbered.{numbered}
 use Rattle.am_names.specs.declared.Message.{Message}
 use Rattle.am_lab_state.specs.Messages.{accepted_at, accepted_by}
-use Rattle.am_lab_state.proofs.Naming.{all_told, told_on}
+use Rattle.am_lab_reasons.proofs.Naming.{all_told, told_on}
 use Rattle.am_lab_state.proofs.accepted.put_named.Goals as goal
 
 pub loop-entry-preserved : goal.loop-entry-preserved

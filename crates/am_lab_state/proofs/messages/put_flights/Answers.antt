@@ -1,5 +1,5 @@
 use Rattle.am_lab_state.specs.Ends.{flying_line}
-use Rattle.am_lab_state.proofs.Naming.{put_on}
+use Rattle.am_lab_arrivals.proofs.Listing.{put_on}
 use Rattle.am_lab_state.proofs.messages.put_flights.Goals as goal
 
 pub loop-flying-preserved : goal.loop-flying-preserved

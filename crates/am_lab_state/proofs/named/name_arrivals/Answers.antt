@@ -1,5 +1,5 @@
 use Rattle.am_names.specs.declared.Message.{Message}
-use Rattle.am_lab_state.proofs.Naming.{named_on}
+use Rattle.am_lab_reasons.proofs.Naming.{named_on}
 use Rattle.am_lab_state.proofs.named.name_arrivals.Goals as goal
 
 pub loop-message-preserved : goal.loop-message-preserved

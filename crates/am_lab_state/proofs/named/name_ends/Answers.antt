@@ -1,5 +1,5 @@
 use Rattle.am_lab_state.specs.Messages.{named_at}
-use Rattle.am_lab_state.proofs.Naming.{put_on}
+use Rattle.am_lab_arrivals.proofs.Listing.{put_on}
 use Rattle.am_lab_state.proofs.named.name_ends.Goals as goal
 
 pub loop-line-preserved : goal.loop-line-preserved

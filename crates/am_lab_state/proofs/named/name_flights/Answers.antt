@@ -1,5 +1,5 @@
 use Rattle.am_model.specs.declared.Flying.{Flying}
-use Rattle.am_lab_state.proofs.Naming.{named_on}
+use Rattle.am_lab_reasons.proofs.Naming.{named_on}
 use Rattle.am_lab_state.proofs.named.name_flights.Goals as goal
 
 pub loop-flying-preserved : goal.loop-flying-preserved

@@ -1,5 +1,5 @@
 use Rattle.am_model.specs.declared.Notice.{Notice}
-use Rattle.am_lab_state.proofs.Naming.{named_on}
+use Rattle.am_lab_reasons.proofs.Naming.{named_on}
 use Rattle.am_lab_state.proofs.named.name_notices.Goals as goal
 
 pub loop-notice-preserved : goal.loop-notice-preserved

@@ -1,5 +1,5 @@
 use Rattle.am_model.specs.declared.Queued.{Queued}
-use Rattle.am_lab_state.proofs.Naming.{named_on}
+use Rattle.am_lab_reasons.proofs.Naming.{named_on}
 use Rattle.am_lab_state.proofs.named.name_queue.Goals as goal
 
 pub loop-queued-preserved : goal.loop-queued-preserved

@@ -1,5 +1,5 @@
 use Rattle.am_model.specs.declared.Awaited.{Awaited}
-use Rattle.am_lab_state.proofs.Naming.{named_on}
+use Rattle.am_lab_reasons.proofs.Naming.{named_on}
 use Rattle.am_lab_state.proofs.named.name_records.Goals as goal
 
 pub loop-record-preserved : goal.loop-record-preserved

@@ -1,40 +1,36 @@
-use Rattle.std.proofs.Common.{◌≡◌, [], List, refl, sym, subst, ◌∙◌}
+use Rattle.std.proofs.Common.{◌≡◌, ℕ, [], List, Result, Ok, Err, refl, sym, subst, ◌∙◌}
+use Rattle.std.specs.Prelude.{IfOk}
+use Rattle.am_cluster_scripted.specs.Scripted.{RunView}
 use Rattle.am_model.specs.History.{EachAfter}
 use Rattle.am_office_entries.specs.declared.Entry.{Entry}
-use Rattle.am_scenario_types.specs.Lists.{ScenarioLists}
 use Rattle.am_scenario_types.specs.declared.parts.Form.TheVariants as Forms
 use Rattle.am_model_scripts.specs.Layout.{layout_of}
 use Rattle.am_lab_reasons.specs.Journal.Lines.{IsMadeAgain}
 use Rattle.am_lab_reasons.specs.Due.Due.{StandsAt}
-use Rattle.am_lab_reasons.proofs.StoppedDue.{lines_at, place_at}
+use Rattle.am_lab_reasons.proofs.StoppedDue.{lines_at}
 use Rattle.am_lab_reasons.proofs.due.told.follow_line.Goals as goal
 
-pub reach-requires-clause-place : goal.reach-requires-clause-place
-reach-requires-clause-place c =
-    let h = c.requires.place in
-    place_at Forms.Run c.args.scenario.now c.requires.lawful c.args.bytes.now c.args.line h.journal h.left h.at c.in_ok-cluster.cluster.layout
-    c.in_ok-cluster.ensures.layout
+run_has : {E : Type 0} (r : Result RunView E) (P : List Entry → Type 0) (js : List Entry) → P js → IfOk r (λ (run : RunView). run.journal ≡ js) →
+    IfOk r (λ (run : RunView). P run.journal)
+run_has (Ok run) P js has is = subst P (sym is) has
+run_has (Err x) P js has is = tt
 
-pub follow-requires-clause-again : goal.follow-requires-clause-again
-follow-requires-clause-again c =
+pub followed-requires-clause-again : goal.followed-requires-clause-again
+followed-requires-clause-again c =
     let s = c.args.scenario.now in
     let h = c.requires.place in
-    let are = lines_at Forms.Run s c.requires.lawful c.args.bytes.now c.args.line h.journal h.left h.at c.in_ok-cluster.cluster.layout
-    c.in_ok-cluster.ensures.layout in
     let plain = lines_at Forms.Run s c.requires.lawful c.args.bytes.now c.args.line h.journal h.left h.at (layout_of s) refl in
-    let got = c.in_ok-reach.ensures.reached h.journal h.left are h.at.number' in
-    let entries : c.deref.result.now ≡ h.journal =
-    c.deref.ensures.value ∙ c.journal-2.view_is ∙ c.in_ok-journal.ensures ∙ c.in_ok-logged.ensures.journal ∙ got.0 in
-    subst (λ (t : ScenarioLists). EachAfter (IsMadeAgain (layout_of t)) [] c.deref.result.now) (sym c.in_ok-run.ensures.scenario)
-    (subst (λ (js : List Entry). EachAfter (IsMadeAgain (layout_of s)) [] js) (sym entries) plain.each)
+    let entries : c.deref.result.now ≡ h.journal = c.deref.ensures.value ∙ c.journal.view_is ∙ c.in_ok-journal.ensures h in
+    subst (λ (js : List Entry). EachAfter (IsMadeAgain (layout_of s)) [] js) (sym entries) plain.each
 
 pub returns-clause-at : goal.returns-clause-at
 returns-clause-at c =
     let s = c.args.scenario.now in
     let h = c.requires.place in
-    let are = lines_at Forms.Run s c.requires.lawful c.args.bytes.now c.args.line h.journal h.left h.at c.in_ok-cluster.cluster.layout
-    c.in_ok-cluster.ensures.layout in
-    let got = c.in_ok-reach.ensures.reached h.journal h.left are h.at.number' in
-    let entries : c.deref.result.now ≡ h.journal =
-    c.deref.ensures.value ∙ c.journal-2.view_is ∙ c.in_ok-journal.ensures ∙ c.in_ok-logged.ensures.journal ∙ got.0 in
-    (h.left, subst (λ (js : List Entry). StandsAt Forms.Run s c.args.bytes.now c.args.line js h.left) (sym (c.in_ok-follow.ensures.journal ∙ entries)) h.at)
+    let entries : c.deref.result.now ≡ h.journal = c.deref.ensures.value ∙ c.journal.view_is ∙ c.in_ok-journal.ensures h in
+    let Stands = λ (js : List Entry). (left : List (List ℕ)) × StandsAt Forms.Run s c.args.bytes.now c.args.line js left in
+    run_has c.followed.result Stands c.deref.result.now (
+      h.left,
+      subst (λ (js : List Entry). StandsAt Forms.Run s c.args.bytes.now c.args.line js h.left)
+          (sym entries) h.at,
+    ) c.followed.ensures.journal

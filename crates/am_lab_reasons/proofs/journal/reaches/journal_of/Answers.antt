@@ -1,15 +1,12 @@
-use Rattle.std.proofs.Common.{◌≡◌, ◌<◌, ◌^◌, List, Result, Ok, Err, length, drop, sym, ap, ◌∙◌, subst, arith}
+use Rattle.std.proofs.Common.{◌≡◌, ◌<◌, ◌^◌, List, Result, Ok, Err, length, drop, sym, ap, subst, arith}
 use Rattle.std.specs.Prelude.{IfOk}
 use Rattle.am_lexer.specs.Text.{lines_of}
 use Rattle.am_model.specs.Layout.{Layout}
 use Rattle.am_office_entries.specs.declared.Entry.{Entry}
 use Rattle.am_lab_reasons.specs.Journal.Lines.{AreLines, HasEnd}
+use Rattle.am_lab_reasons.proofs.Again.{same_if}
 use Rattle.am_lab_reasons.proofs.Reported.{has_end, reported}
 use Rattle.am_lab_reasons.proofs.journal.reaches.journal_of.Goals as goal
-
-same_if : {E : Type 0} (r : Result (List Entry) E) (a b : List Entry) → a ≡ b → IfOk r (λ (j : List Entry). j ≡ a) → IfOk r (λ (j : List Entry). j ≡ b)
-same_if (Ok j) a b e h = h ∙ e
-same_if (Err x) a b e h = tt
 
 few_if : {E : Type 0} (r : Result (List Entry) E) (a : List Entry) → length a < 2 ^ 31 → IfOk r (λ (j : List Entry). j ≡ a) →
     IfOk r (λ (j : List Entry). length j < 2 ^ 31)
@@ -26,7 +23,7 @@ returns-clause-made c = λ form r.
     let t = reported form c.args.scenario.now c.requires.lawful c.args.bytes.now c.requires.few r in
     let are = subst (λ (l : Layout). AreLines l (drop 2 (lines_of c.args.bytes.now)) r.journal t.left) (sym c.in_ok-cluster.ensures.layout) t.are in
     let is = c.in_ok-reach_end.ensures.reached r.journal t.left are t.count in
-    same_if c.copied.result c.in_ok-logged.logged r.journal (c.in_ok-logged.ensures.journal ∙ is) c.copied.ensures
+    same_if c.journal_in.result c.reach_end.new.cluster.journal r.journal is c.journal_in.ensures
 
 pub returns-clause-few : goal.returns-clause-few
 returns-clause-few c =
@@ -35,7 +32,7 @@ returns-clause-few c =
     let t = reported form c.args.scenario.now c.requires.lawful c.args.bytes.now c.requires.few r in
     let are = subst (λ (l : Layout). AreLines l (drop 2 (lines_of c.args.bytes.now)) r.journal t.left) (sym c.in_ok-cluster.ensures.layout) t.are in
     let is = c.in_ok-reach_end.ensures.reached r.journal t.left are t.count in
-    let long = ap length (c.in_ok-logged.ensures.journal ∙ is) in
+    let long = ap length is in
     let low = t.low in
     let few = c.requires.few in
-    few_if c.copied.result c.in_ok-logged.logged (omega (arith, long, low, few)) c.copied.ensures
+    few_if c.journal_in.result c.reach_end.new.cluster.journal (omega (arith, long, low, few)) c.journal_in.ensures

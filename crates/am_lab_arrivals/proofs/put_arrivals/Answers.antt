@@ -1,6 +1,6 @@
-use Rattle.am_lab_state.specs.Ends.{received_line}
-use Rattle.am_lab_state.proofs.Naming.{put_on}
-use Rattle.am_lab_state.proofs.messages.put_arrivals.Goals as goal
+use Rattle.am_lab_arrivals.specs.Arrivals.{received_line}
+use Rattle.am_lab_arrivals.proofs.Listing.{put_on}
+use Rattle.am_lab_arrivals.proofs.put_arrivals.Goals as goal
 
 pub loop-message-preserved : goal.loop-message-preserved
 loop-message-preserved c =

@@ -1,8 +1,8 @@
 -- Lists that grow by what is told of one element more.
-use Rattle.std.proofs.Common.{◌≡◌, ℕ, zero, suc, ◌+◌, ◌<◌, ◌≤◌, List, [], ◌∷◌, ◌++◌, drop, get_or, length, map, take, refl, sym, ap, ◌∙◌}
+use Rattle.std.proofs.Common.{◌≡◌, ℕ, zero, suc, ◌+◌, ◌<◌, ◌≤◌, Bool, true, false, ◌||◌, List, [], ◌∷◌, ◌++◌, drop, get_or, length, map, take, refl, sym, ap, ◌∙◌}
 use Rattle.std.proofs.Common.{append_assoc, arith}
 use Rattle.std.proofs.lemmas.List.{append-nil, at_drop_more, drop_all}
-use Rattle.std.specs.List.{flat_map}
+use Rattle.std.specs.List.{flat_map, list_any}
 use Rattle.am_lemmas.specs.Numbered.{numbered}
 
 one_more : {X Y : Type 0} (f : X → Y) (xs : List X) (i : ℕ) (d : X) → i < length xs → map f (take (i + 1) xs) ≡ map f (take i xs) ++ f (get_or xs i d) ∷ []
@@ -37,19 +37,27 @@ pub all_told : {X Y : Type 0} (give : ℕ → X → List Y) (xs : List X) (i lin
 all_told {X = X} give xs i line out whole ended so =
     sym (append-nil out) ∙ ap (λ (ys : List X). out ++ numbered give line ys) (sym (drop_all i xs ended)) ∙ so
 
--- ---- what each element gives, one after the other
+-- ---- what each element gives, where those from one on are left
 
-one_put : {X Y : Type 0} (f : X → List Y) (xs : List X) (i : ℕ) (d : X) → i < length xs → flat_map f (take (i + 1) xs) ≡ flat_map f (take i xs) ++ f (get_or xs i d)
-one_put f [] i d below = absurd (omega (arith, below))
-one_put f (x ∷ xs) zero d below = append-nil (f x)
-one_put {Y = Y} f (x ∷ xs) (suc i) d below =
-    let next : suc i + 1 ≡ suc (i + 1) = omega arith in
-    rw next (ap (λ (l : List Y). f x ++ l) (one_put f xs i d (omega (arith, below))) ∙ sym (append_assoc (f x) (flat_map f (take i xs)) (f (get_or xs i d))))
+pub first_put : {X Y : Type 0} (f : X → List Y) (all left : List X) (x : X) (out new whole : List Y) → all ≡ x ∷ left → out ++ flat_map f all ≡ whole →
+    new ≡ out ++ f x → new ++ flat_map f left ≡ whole
+first_put {X = X} {Y = Y} f all left x out new whole is so put =
+    ap (λ (o : List Y). o ++ flat_map f left) put
+    ∙ append_assoc out (f x) (flat_map f left)
+    ∙ ap (λ (xs : List X). out ++ flat_map f xs) (sym is)
+    ∙ so
 
-pub put_on : {X Y : Type 0} (f : X → List Y) (xs : List X) (i : ℕ) (d : X) (old out new : List Y) → i < length xs → out ≡ old ++ flat_map f (take i xs) →
-    new ≡ out ++ f (get_or xs i d) → new ≡ old ++ flat_map f (take (i + 1) xs)
-put_on {Y = Y} f xs i d old out new below so put =
-    put
-    ∙ ap (λ (o : List Y). o ++ f (get_or xs i d)) so
-    ∙ append_assoc old (flat_map f (take i xs)) (f (get_or xs i d))
-    ∙ ap (λ (o : List Y). old ++ o) (sym (one_put f xs i d below))
+pub all_put : {X Y : Type 0} (f : X → List Y) (all : List X) (out whole : List Y) → all ≡ [] → out ++ flat_map f all ≡ whole → out ≡ whole
+all_put {X = X} f all out whole none so = sym (append-nil out) ∙ ap (λ (xs : List X). out ++ flat_map f xs) (sym none) ∙ so
+
+-- ---- a test of each element, where those from one on are left
+
+pub any_found : {X : Type 0} (p : X → Bool) (all left : List X) (x : X) (whole : Bool) → all ≡ x ∷ left → p x ≡ true → list_any p all ≡ whole → true ≡ whole
+any_found p all left x whole is this so = sym (ap (list_any p) is ∙ ap (λ (b : Bool). b || list_any p left) this) ∙ so
+
+pub any_passed : {X : Type 0} (p : X → Bool) (all left : List X) (x : X) (whole : Bool) → all ≡ x ∷ left → p x ≡ false → list_any p all ≡ whole →
+    list_any p left ≡ whole
+any_passed p all left x whole is this so = sym (ap (list_any p) is ∙ ap (λ (b : Bool). b || list_any p left) this) ∙ so
+
+pub any_ended : {X : Type 0} (p : X → Bool) (all : List X) (whole : Bool) → all ≡ [] → list_any p all ≡ whole → false ≡ whole
+any_ended p all whole none so = sym (ap (list_any p) none) ∙ so

@@ -1,0 +1,8 @@
+use Rattle.am_lab_state.specs.Nodes.{key_line}
+use Rattle.am_lab_arrivals.proofs.Listing.{put_on}
+use Rattle.am_lab_state.proofs.nodes.put_keys.Goals as goal
+
+pub loop-line-preserved : goal.loop-line-preserved
+loop-line-preserved c =
+    put_on (key_line c.args.scenario.now c.args.cluster.now.journal c.args.node) c.args.ends.now c.loop-line.line-index _ c.args.out.now.items
+    c.loop-line.out.items c.put_key_of.new.out.items c.loop-line-test.true c.loop-line.invariant c.in_ok-put_key_of.ensures
