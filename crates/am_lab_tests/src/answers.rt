@@ -64,7 +64,9 @@ pub fn is_between(
     let text = joined(alloc, text.0, text.1)?;
     let answer = answer_to(alloc, line, text)?;
     let printed = answer.sink.bytes();
-    Ok(answer.status == 0
-        && printed.starts_with(around.0.as_bytes())
-        && printed.ends_with(around.1.as_bytes()))
+    Ok(
+        answer.status == 0
+            && printed.starts_with(around.0.as_bytes())
+            && printed.ends_with(around.1.as_bytes()),
+    )
 }

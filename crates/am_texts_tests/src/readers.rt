@@ -60,19 +60,19 @@ fn fault_of(alloc: Global, reader: Reader, text: &str) -> Option<(u32, What)> {
     }
 }
 
-// Whether the text of a row has its fault behind this head.
-fn is_refused(alloc: Global, reader: Reader, head: &str, row: Row) -> bool {
-    match joined(alloc, &[head, row.0]) {
-        Ok(text) => fault_of(alloc, reader, text.as_str()) == Some((row.1, row.2)),
+// Whether a text has this fault behind this head.
+fn is_refused(alloc: Global, reader: Reader, head: &str, text: &str, fault: (u32, What)) -> bool {
+    match joined(alloc, &[head, text]) {
+        Ok(whole) => fault_of(alloc, reader, whole.as_str()) == Some(fault),
         Err(_) => false,
     }
 }
 
 /// Stops at the first row that is read otherwise behind this head.
 pub fn try_rows<R: Abort>(rt: &R, alloc: Global, reader: Reader, head: &str, rows: &[Row]) {
-    for row in rows {
-        if !is_refused(alloc, reader, head, *row) {
-            rt.panic(row.0)
+    for (text, line, what) in rows {
+        if !is_refused(alloc, reader, head, text, (*line, *what)) {
+            rt.panic(*text)
         }
     }
 }

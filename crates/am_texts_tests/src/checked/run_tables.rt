@@ -135,13 +135,7 @@ pub static REPORTS: [Row; 14] = [
     ),
     // a call of the thread, and not its next one
     (
-        [
-            HEAD,
-            "t0 map 0 0 2 20 2 -> ok\n",
-            FIRST,
-            LAST,
-            TAIL,
-        ],
+        [HEAD, "t0 map 0 0 2 20 2 -> ok\n", FIRST, LAST, TAIL],
         Some(Fault {
             line: 3,
             what: Follows,
@@ -149,13 +143,7 @@ pub static REPORTS: [Row; 14] = [
     ),
     // a thread that isn't declared
     (
-        [
-            HEAD,
-            "t3 poll 0 -> empty\n",
-            FIRST,
-            LAST,
-            TAIL,
-        ],
+        [HEAD, "t3 poll 0 -> empty\n", FIRST, LAST, TAIL],
         Some(Fault {
             line: 3,
             what: Follows,
@@ -163,13 +151,7 @@ pub static REPORTS: [Row; 14] = [
     ),
     // a call of nobody that is no poll
     (
-        [
-            HEAD,
-            "x close 0 -> ok\n",
-            FIRST,
-            LAST,
-            TAIL,
-        ],
+        [HEAD, "x close 0 -> ok\n", FIRST, LAST, TAIL],
         Some(Fault {
             line: 3,
             what: Follows,
@@ -177,13 +159,7 @@ pub static REPORTS: [Row; 14] = [
     ),
     // a node that there isn't
     (
-        [
-            HEAD,
-            CALLS,
-            "d2 load 0 0\n",
-            LAST,
-            TAIL,
-        ],
+        [HEAD, CALLS, "d2 load 0 0\n", LAST, TAIL],
         Some(Fault {
             line: 10,
             what: Follows,
@@ -191,13 +167,7 @@ pub static REPORTS: [Row; 14] = [
     ),
     // a bind of an endpoint that is in no frame
     (
-        [
-            HEAD,
-            CALLS,
-            "i0 bind 0 -> sent 0.1 1 0 1 0 1\n",
-            LAST,
-            TAIL,
-        ],
+        [HEAD, CALLS, "i0 bind 0 -> sent 0.1 1 0 1 0 1\n", LAST, TAIL],
         Some(Fault {
             line: 10,
             what: NotEnabled(Condition::NotResident),
@@ -220,13 +190,7 @@ pub static REPORTS: [Row; 14] = [
         }),
     ),
     (
-        [
-            HEAD,
-            CALLS,
-            "d0  load 0 0\n",
-            LAST,
-            TAIL,
-        ],
+        [HEAD, CALLS, "d0  load 0 0\n", LAST, TAIL],
         Some(Fault {
             line: 10,
             what: Form,
@@ -234,13 +198,7 @@ pub static REPORTS: [Row; 14] = [
     ),
     // a poll of another endpoint in place of the last: what was received is not run
     (
-        [
-            HEAD,
-            CALLS,
-            FIRST,
-            "x poll 0 -> empty\n",
-            TAIL,
-        ],
+        [HEAD, CALLS, FIRST, "x poll 0 -> empty\n", TAIL],
         Some(Fault {
             line: 32,
             what: Follows,

@@ -40,10 +40,7 @@ const TOTALS: &str = "totals ran 1 returned 0 unknown 0 unknown-but-ran 0 pendin
 
 /// Behind the scenario: its report, and the report with one part in place of another.
 pub static REPORTS: [Row; 13] = [
-    (
-        [HEAD, CALLS, RUNS, TAIL, TOTALS],
-        None,
-    ),
+    ([HEAD, CALLS, RUNS, TAIL, TOTALS], None),
     (
         ["", "", "", "", ""],
         Some(Fault {
@@ -66,7 +63,13 @@ pub static REPORTS: [Row; 13] = [
         }),
     ),
     (
-        [HEAD, CALLS, "x carry 0 -> accepted 0.1\nx  poll 1\n", TAIL, TOTALS],
+        [
+            HEAD,
+            CALLS,
+            "x carry 0 -> accepted 0.1\nx  poll 1\n",
+            TAIL,
+            TOTALS,
+        ],
         Some(Fault {
             line: 7,
             what: Form,
@@ -80,14 +83,26 @@ pub static REPORTS: [Row; 13] = [
         }),
     ),
     (
-        [HEAD, CALLS, "x carry 0 -> accepted 0.1\nx poll 1 -> empty\n", TAIL, TOTALS],
+        [
+            HEAD,
+            CALLS,
+            "x carry 0 -> accepted 0.1\nx poll 1 -> empty\n",
+            TAIL,
+            TOTALS,
+        ],
         Some(Fault {
             line: 7,
             what: Outcome,
         }),
     ),
     (
-        [HEAD, CALLS, "x poll 1 -> empty\nx carry 0 -> accepted 0.1\n", TAIL, TOTALS],
+        [
+            HEAD,
+            CALLS,
+            "x poll 1 -> empty\nx carry 0 -> accepted 0.1\n",
+            TAIL,
+            TOTALS,
+        ],
         Some(Fault {
             line: 6,
             what: Follows,
@@ -116,7 +131,13 @@ pub static REPORTS: [Row; 13] = [
     ),
     // its last byte lacks; and there is one more
     (
-        [HEAD, CALLS, RUNS, TAIL, "totals ran 1 returned 0 unknown 0 unknown-but-ran 0 pending 1"],
+        [
+            HEAD,
+            CALLS,
+            RUNS,
+            TAIL,
+            "totals ran 1 returned 0 unknown 0 unknown-but-ran 0 pending 1",
+        ],
         Some(Fault {
             line: 14,
             what: Tail,

@@ -5,7 +5,7 @@ use crate::checked::tables::{REPORTS, Row, SCENARIO, TEXTS};
 use crate::texts::joined;
 use am_check::{CheckStop, check_runs, check_steps};
 use am_scenario::Form;
-use std::alloc::Global;
+use std::alloc::{AllocError, Global};
 use std::process::Abort;
 
 // What the check of a text is stopped for.
@@ -17,25 +17,42 @@ fn stop_of(alloc: Global, form: Form, text: &str) -> Option<CheckStop> {
     checked.err()
 }
 
-// Whether a row is answered as it says, with a text in front of its parts and one in front of the last two.
-fn is_checked(alloc: Global, form: Form, put: (&str, &str), row: Row) -> bool {
-    let [first, second, third, fourth, last] = row.0;
-    match joined(alloc, &[put.0, first, second, third, put.1, fourth, last]) {
-        Ok(text) => stop_of(alloc, form, text.as_str()) == row.1,
-        Err(_) => false,
+// Five parts behind a text, with one more in front of the last two.
+fn text_of(
+    alloc: Global,
+    front: &str,
+    between: &str,
+    parts: &[&str],
+) -> Result<String, AllocError> {
+    let mut text = joined(alloc, &[front])?;
+    for (place, part) in parts.iter().enumerate() {
+        if place == 3 {
+            text.push_str(between)?;
+        }
+        text.push_str(part)?;
     }
+    Ok(text)
 }
 
-// Stops at the first row that is answered otherwise.
+// Stops at the first row that is answered otherwise, with these texts in front of its parts and of the last two.
 fn try_reports<R: Abort>(rt: &R, alloc: Global, form: Form, put: (&str, &str), rows: &[Row]) {
-    for (place, row) in rows.iter().enumerate() {
-        assert!(*rt; is_checked(alloc, form, put, *row), "{place}");
+    for (parts, stop) in rows {
+        let text = text_of(alloc, put.0, put.1, parts).expect(rt, "ample memory");
+        if stop_of(alloc, form, text.as_str()) != *stop {
+            rt.panic(text.as_str())
+        }
     }
 }
 
 #[test]
 fn reports_of_steps_are_checked(rt: HostRuntime) {
-    try_reports(&rt, rt.alloc(), Form::Step, (SCENARIO, ""), REPORTS.as_slice());
+    try_reports(
+        &rt,
+        rt.alloc(),
+        Form::Step,
+        (SCENARIO, ""),
+        REPORTS.as_slice(),
+    );
     try_reports(&rt, rt.alloc(), Form::Step, ("", ""), TEXTS.as_slice());
 }
 

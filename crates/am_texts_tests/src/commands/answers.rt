@@ -81,9 +81,11 @@ pub fn prints_between<R: Threads + Sync>(
 ) -> Result<bool, AllocError> {
     let answer = answer_of(rt, alloc, line, text.as_bytes(), (SOUND, SOUND))?;
     let printed = answer.sink.bytes();
-    Ok(answer.status == 0
-        && printed.starts_with(around.0.as_bytes())
-        && printed.ends_with(around.1.as_bytes()))
+    Ok(
+        answer.status == 0
+            && printed.starts_with(around.0.as_bytes())
+            && printed.ends_with(around.1.as_bytes()),
+    )
 }
 
 // Whether a text is answered so under a command. It is put together of these parts, and so is what is printed.
@@ -103,10 +105,27 @@ fn is_answered<R: Threads + Sync>(
 
 /// Stops at the first row that is answered otherwise under this command.
 pub fn try_parts<R: Threads + Sync + Abort>(rt: &R, alloc: Global, line: &str, rows: &[Row]) {
-    for (place, (text, status, printed)) in rows.iter().enumerate() {
+    for (text, status, printed) in rows {
         let answered = is_answered(rt, alloc, line, text, *status, printed);
-        assert!(*rt; matches!(answered, Ok(true)), "{line}: {place}");
+        if !matches!(answered, Ok(true)) {
+            rt.panic(line)
+        }
     }
+}
+
+// Whether a text is answered so under a command, behind this head.
+fn is_told<R: Threads + Sync>(
+    rt: &R,
+    alloc: Global,
+    line: &str,
+    head: &str,
+    text: &str,
+    status: u8,
+    printed: &str,
+) -> Result<bool, AllocError> {
+    let whole = joined(alloc, &[head, text])?;
+    let wanted = sound(status, printed.as_bytes());
+    ends_so(rt, alloc, line, whole.as_bytes(), (SLOW, SLOW), wanted)
 }
 
 /// Stops at the first row whose text, behind this head, is answered otherwise under this command.
@@ -118,8 +137,8 @@ pub fn try_texts<R: Threads + Sync + Abort>(
     rows: &[Told],
 ) {
     for (text, status, printed) in rows {
-        let answered = is_answered(rt, alloc, line, &[head, text], *status, &[printed]);
-        if !matches!(answered, Ok(true)) {
+        let told = is_told(rt, alloc, line, head, text, *status, printed);
+        if !matches!(told, Ok(true)) {
             rt.panic(*text)
         }
     }

@@ -39,10 +39,24 @@ fn each_call_fails_in_turn(rt: HostRuntime) {
     for fails in 1..25u32 {
         let failing = Device { most: 16, fails };
         let read = (failing, SOUND);
-        let read = ends_so(&rt, rt.alloc(), "step", path_text(), read, read_ending(fails));
+        let read = ends_so(
+            &rt,
+            rt.alloc(),
+            "step",
+            path_text(),
+            read,
+            read_ending(fails),
+        );
         assert!(rt; matches!(read, Ok(true)));
         let write = (SOUND, failing);
-        let write = ends_so(&rt, rt.alloc(), "step", path_text(), write, write_ending(fails));
+        let write = ends_so(
+            &rt,
+            rt.alloc(),
+            "step",
+            path_text(),
+            write,
+            write_ending(fails),
+        );
         assert!(rt; matches!(write, Ok(true)));
     }
 }
@@ -60,7 +74,14 @@ fn ending_of(case: &Case) -> Ending<'static> {
 fn a_read_fails_or_a_write_fails(rt: HostRuntime) {
     for case in CASES.iter() {
         let text = case.text.as_bytes();
-        let ended = ends_so(&rt, rt.alloc(), case.line, text, (case.source, case.sink), ending_of(case));
+        let ended = ends_so(
+            &rt,
+            rt.alloc(),
+            case.line,
+            text,
+            (case.source, case.sink),
+            ending_of(case),
+        );
         assert!(rt; matches!(ended, Ok(true)));
     }
 }

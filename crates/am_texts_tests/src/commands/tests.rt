@@ -1,7 +1,7 @@
 //! Each command over texts.
 
 use crate::commands::answers::{ends_so, prints_between, try_parts, try_texts};
-use crate::commands::direct::DIRECT;
+use crate::commands::direct::{DIRECT, QUEUES};
 use crate::commands::packet::PACKET;
 use crate::commands::scripts::{ASKING, CLIENTS, ONE_LOST, POLLS, RUNS, VERSION};
 use crate::commands::tables::{PATH, SLOW, SOUND, sound};
@@ -14,6 +14,11 @@ use std::thread::Threads;
 #[test]
 fn steps_on_the_direct_network_are_answered(rt: HostRuntime) {
     try_parts(&rt, rt.alloc(), "step", DIRECT.as_slice());
+}
+
+#[test]
+fn full_queues_are_answered(rt: HostRuntime) {
+    try_parts(&rt, rt.alloc(), "step", QUEUES.as_slice());
 }
 
 #[test]
@@ -87,11 +92,21 @@ fn is_unknown<R: Threads + Sync>(rt: &R, alloc: Global) -> Result<bool, AllocErr
 }
 
 // Whether it comes to its end with so many turns.
-fn comes_to_its_end<R: Threads + Sync>(rt: &R, alloc: Global, turns: u32) -> Result<bool, AllocError> {
+fn comes_to_its_end<R: Threads + Sync>(
+    rt: &R,
+    alloc: Global,
+    turns: u32,
+) -> Result<bool, AllocError> {
     let turns = turns.to_string(alloc)?;
     let setting = joined(alloc, &["turns ", turns.as_str(), "\n"])?;
     let text = clients_text(alloc, setting.as_str(), ONE_LOST)?;
-    prints_between(rt, alloc, "run", text.as_str(), ("am2 report 1\n", " pending 0\n"))
+    prints_between(
+        rt,
+        alloc,
+        "run",
+        text.as_str(),
+        ("am2 report 1\n", " pending 0\n"),
+    )
 }
 
 #[test]

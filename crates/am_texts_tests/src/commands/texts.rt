@@ -19,7 +19,11 @@ pub static FAULTS: [Told; 11] = [
         "refused line 3 out-of-range\n",
     ),
     ("am2 1\nnodes x\n", 3, "refused line 2 bad-number\n"),
-    ("am2 1\nnodes 18446744073709551616\n", 3, "refused line 2 bad-number\n"),
+    (
+        "am2 1\nnodes 18446744073709551616\n",
+        3,
+        "refused line 2 bad-number\n",
+    ),
     (
         "am2 1\n\
             nodes 1\n\
@@ -81,7 +85,11 @@ pub static CONDITIONS: [Told; 15] = [
     ("x want 0\n", 3, "refused line 7 not-enabled not-on-disk\n"),
     ("x carry 0\n", 3, "refused line 7 not-enabled not-direct\n"),
     ("i1 bind 0\n", 3, "refused line 7 not-enabled other-node\n"),
-    ("i0 bind 0\n", 3, "refused line 7 not-enabled not-resident\n"),
+    (
+        "i0 bind 0\n",
+        3,
+        "refused line 7 not-enabled not-resident\n",
+    ),
     (
         "d0 load 0 0\n\
             d0 drain 0\n\
@@ -89,7 +97,11 @@ pub static CONDITIONS: [Told; 15] = [
         3,
         "refused line 9 not-enabled draining\n",
     ),
-    ("d0 load 0 0\ni0 bind 0\n", 3, "refused line 8 not-enabled no-message\n"),
+    (
+        "d0 load 0 0\ni0 bind 0\n",
+        3,
+        "refused line 8 not-enabled no-message\n",
+    ),
     (
         "x map 0 0 1 7 4\n\
             d0 load 0 0\n\
@@ -101,12 +113,36 @@ pub static CONDITIONS: [Told; 15] = [
         "refused line 12 not-enabled no-channel\n",
     ),
     ("i0 expire 1 0\n", 3, "refused line 7 not-enabled idle\n"),
-    ("i0 receive 1 1\n", 3, "refused line 7 not-enabled no-packet\n"),
-    ("d0 drain 0\n", 3, "refused line 7 not-enabled not-resident\n"),
-    ("d0 load 0 0\nd0 unload 0\n", 3, "refused line 8 not-enabled not-draining\n"),
-    ("d0 load 2 0\n", 3, "refused line 7 not-enabled not-on-host\n"),
-    ("x close 0\nd0 load 0 0\n", 3, "refused line 8 not-enabled closed\n"),
-    ("d0 pagein 0\n", 3, "refused line 7 not-enabled not-on-disk\n"),
+    (
+        "i0 receive 1 1\n",
+        3,
+        "refused line 7 not-enabled no-packet\n",
+    ),
+    (
+        "d0 drain 0\n",
+        3,
+        "refused line 7 not-enabled not-resident\n",
+    ),
+    (
+        "d0 load 0 0\nd0 unload 0\n",
+        3,
+        "refused line 8 not-enabled not-draining\n",
+    ),
+    (
+        "d0 load 2 0\n",
+        3,
+        "refused line 7 not-enabled not-on-host\n",
+    ),
+    (
+        "x close 0\nd0 load 0 0\n",
+        3,
+        "refused line 8 not-enabled closed\n",
+    ),
+    (
+        "d0 pagein 0\n",
+        3,
+        "refused line 7 not-enabled not-on-disk\n",
+    ),
 ];
 
 /// The report of `PATH` in front of its last entry; behind it, without its last line; and that line.
@@ -297,8 +333,18 @@ pub static COUNTS: [(&str, &[u8], u8, &[u8]); 9] = [
 
 /// The words, a text, and what its report begins and ends with.
 pub static FRAMED: [(&str, &str, &str, &str); 5] = [
-    ("make 0", "", "am2 make 0\ncalls 1744\nentries ", " pending 0\n"),
-    ("make 1", "", "am2 make 1\ncalls 1744\nentries ", " pending 0\n"),
+    (
+        "make 0",
+        "",
+        "am2 make 0\ncalls 1744\nentries ",
+        " pending 0\n",
+    ),
+    (
+        "make 1",
+        "",
+        "am2 make 1\ncalls 1744\nentries ",
+        " pending 0\n",
+    ),
     (
         "make 18446744073709551615",
         "",

@@ -43,7 +43,10 @@ impl Source for Patient {
 #[test]
 fn a_read_is_tried_again(rt: HostRuntime) {
     for (fails, faults, is_read) in [([2, 9], 1, true), ([2, 3], 2, false)] {
-        let bytes = Vec::from_slice(rt.alloc(), b"twenty bytes of text").expect(&rt, "ample memory");
+        let bytes = Vec::from_slice(rt.alloc(), b"twenty bytes of text").expect(
+            &rt,
+            "ample memory",
+        );
         let fails = Vec::from_slice(rt.alloc(), &fails).expect(&rt, "ample memory");
         let mut source = Patient {
             inner: MemorySource::new(bytes, 7, fails),

@@ -59,14 +59,7 @@ pub static LIMITS: [Limit; 9] = [
         "endpoint 65 0 5\n",
         68,
     ),
-    (
-        STEP,
-        NODE,
-        ("swapfault 0 ", ""),
-        64,
-        "swapfault 0 65\n",
-        68,
-    ),
+    (STEP, NODE, ("swapfault 0 ", ""), 64, "swapfault 0 65\n", 68),
     (
         RUN,
         NODE,
