@@ -110,7 +110,7 @@ const SEGMENTS: &str = "am2 1\n\
     t0 serve 0 2\n";
 
 /// The words, a scenario and its report or another text, and the status and the text that are answered.
-pub const TOLD: [(&str, &str, &str, u8, &str); 25] = [
+pub static TOLD: [(&str, &str, &str, u8, &str); 25] = [
     ("am2_lab explain step", PATH, REPORT, 0, "check ok\n"),
     (
         "am2_lab explain step",
@@ -287,36 +287,4 @@ pub const TOLD: [(&str, &str, &str, u8, &str); 25] = [
         12,
         "no round 1 of 0\n",
     ),
-];
-
-/// Words that ask for nothing.
-pub const NO_WORDS: [&str; 28] = [
-    "am2_lab",
-    "am2_lab tell step",
-    "am2_lab explain",
-    "am2_lab explain make",
-    "am2_lab explain step 0.1",
-    "am2_lab explain run --front",
-    "am2_lab why step",
-    "am2_lab why step 01",
-    "am2_lab why step 0.0",
-    "am2_lab replay step",
-    "am2_lab scenario",
-    "am2_lab scenario make",
-    "am2_lab scenario make 18446744073709551616",
-    "am2_lab scenario count 9 0 1",
-    "am2_lab scenario count 0 0 1",
-    "am2_lab scenario count 1 10001 1",
-    "am2_lab scenario count 1 0 0",
-    "am2_lab scenario make 01",
-    "am2_lab why step 00.01",
-    "am2_lab chart step 3",
-    "am2_lab chart step 03 4",
-    "am2_lab schedule 01",
-    "am2_lab schedule 0..=5",
-    "am2_lab schedule a..b",
-    "am2_lab schedule ..5",
-    "am2_lab schedule 1..",
-    "am2_lab schedule 5..1",
-    "am2_lab schedule 0..100001",
 ];

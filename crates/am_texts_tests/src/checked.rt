@@ -3,10 +3,6 @@
 #[cfg(test)]
 mod run_tables;
 #[cfg(test)]
-mod runs;
-#[cfg(test)]
 mod tables;
 #[cfg(test)]
 mod tests;
-#[cfg(test)]
-mod texts;

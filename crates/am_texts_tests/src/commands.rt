@@ -1,7 +1,7 @@
 //! Tests of the top call: each command over texts, and over sources and sinks that fail.
 
 #[cfg(test)]
-mod answers;
+pub(crate) mod answers;
 #[cfg(test)]
 mod direct;
 #[cfg(test)]
@@ -11,7 +11,7 @@ mod packet;
 #[cfg(test)]
 mod scripts;
 #[cfg(test)]
-mod tables;
+pub(crate) mod tables;
 #[cfg(test)]
 mod tests;
 #[cfg(test)]

@@ -5,6 +5,10 @@ mod checked;
 mod commands;
 mod jobs;
 mod printed;
+#[cfg(test)]
+mod readers;
 mod scenarios;
 mod segments;
 mod sessions;
+#[cfg(test)]
+mod texts;

@@ -1,11 +1,9 @@
-//! Tests of plain data and texts: sources and sinks that fail, the order of names, fates, printed lines, reports.
+//! Tests of plain data and texts: sources and sinks, the order of names, printed lines.
 
 #[cfg(test)]
 mod entries;
 #[cfg(test)]
 mod events;
-#[cfg(test)]
-mod journals;
 #[cfg(test)]
 mod patient;
 #[cfg(test)]

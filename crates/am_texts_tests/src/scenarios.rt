@@ -1,5 +1,7 @@
-//! Tests of the scenario's text: small texts with the fault that each has, and texts that spell a scenario.
+//! Tests of the scenario's text: small texts with the fault that each has, how many lines there may be, and what a plan releases.
 
+#[cfg(test)]
+mod limits;
 #[cfg(test)]
 mod runs;
 #[cfg(test)]

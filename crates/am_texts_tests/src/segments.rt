@@ -1,4 +1,4 @@
-//! Tests of segments and transfers: texts with the fault that each has, and what is written and printed.
+//! Tests of segments: texts with the fault that each has.
 
 #[cfg(test)]
 mod tables;

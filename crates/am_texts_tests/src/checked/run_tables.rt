@@ -1,6 +1,7 @@
 //! Reports of runs, right and wrong, and the first fault of each.
 
-use am_check::CheckStop::{self, Fault, LogFull};
+use crate::checked::tables::Row;
+use am_check::CheckStop::{Fault, LogFull};
 use am_check::CheckWhat::{Follows, Form, NotEnabled, Outcome, Tail};
 use am_names::EndpointId;
 use am_office_entries::{Condition, Part};
@@ -32,9 +33,9 @@ pub const CLIENTS: &str = "am2 1\n\
     t2 poll 2\n";
 
 /// What its report begins with, and the lines 3 to 9, 10 to 13, 14 to 30, and 31 of the report; and what stands behind.
-pub const HEAD: &str = "am2 report 1\nentries 29\n";
+const HEAD: &str = "am2 report 1\nentries 29\n";
 
-pub const CALLS: &str = "t0 handler 0 4 note -> ok\n\
+const CALLS: &str = "t0 handler 0 4 note -> ok\n\
     t1 handler 1 4 note -> ok\n\
     t2 handler 2 3 add 4 -> ok\n\
     t0 map 0 0 2 20 2 -> ok\n\
@@ -42,7 +43,7 @@ pub const CALLS: &str = "t0 handler 0 4 note -> ok\n\
     t2 poll 2 -> empty\n\
     t0 request 0 0 3 100 0 0 0 -> ok 0.1\n";
 
-pub const FIRST: &str = "d0 load 0 0\n\
+const FIRST: &str = "d0 load 0 0\n\
     d1 load 2 0\n\
     i0 bind 0 -> sent 0.1 1 0 1 0 1\n\
     i1 receive 0 1 -> accepted 0.1 answer 1\n";
@@ -65,9 +66,9 @@ pub const REST: &str = "i0 receive 1 1 -> delivered 0.1\n\
     i0 receive 1 4 -> accepted 2.2 answer 5\n\
     i1 receive 0 5 -> delivered 2.2\n";
 
-pub const LAST: &str = "x poll 1 -> ran 2.2 4\n";
+const LAST: &str = "x poll 1 -> ran 2.2 4\n";
 
-pub const TAIL: &str = "endpoint 0 runs 1\n\
+const TAIL: &str = "endpoint 0 runs 1\n\
     run 2.1 4 100 0 0 0\n\
     endpoint 1 runs 1\n\
     run 2.2 4 123 0 0 0\n\
@@ -81,28 +82,35 @@ pub const TAIL: &str = "endpoint 0 runs 1\n\
     fate 2.2 reply ran\n\
     totals ran 4 returned 0 unknown 0 unknown-but-ran 0 pending 0\n";
 
-/// The report with one part in place of another: what stands for the calls, the next four lines and the last line; and the
-/// answer.
-pub const REPORTS: [(&str, &str, &str, Option<CheckStop>); 13] = [
-    (CALLS, FIRST, LAST, None),
+/// Behind the scenario and with the rest in front of the last two parts: its report, and the report with one part in place of another.
+pub static REPORTS: [Row; 14] = [
+    ([HEAD, CALLS, FIRST, LAST, TAIL], None),
     // the load of another node comes before or after a bind
     (
-        CALLS,
-        "d0 load 0 0\n\
-            i0 bind 0 -> sent 0.1 1 0 1 0 1\n\
-            d1 load 2 0\n\
-            i1 receive 0 1 -> accepted 0.1 answer 1\n",
-        LAST,
+        [
+            HEAD,
+            CALLS,
+            "d0 load 0 0\n\
+                i0 bind 0 -> sent 0.1 1 0 1 0 1\n\
+                d1 load 2 0\n\
+                i1 receive 0 1 -> accepted 0.1 answer 1\n",
+            LAST,
+            TAIL,
+        ],
         None,
     ),
     // a receipt before its packet
     (
-        CALLS,
-        "d0 load 0 0\n\
-            d1 load 2 0\n\
-            i1 receive 0 1 -> accepted 0.1 answer 1\n\
-            i0 bind 0 -> sent 0.1 1 0 1 0 1\n",
-        LAST,
+        [
+            HEAD,
+            CALLS,
+            "d0 load 0 0\n\
+                d1 load 2 0\n\
+                i1 receive 0 1 -> accepted 0.1 answer 1\n\
+                i0 bind 0 -> sent 0.1 1 0 1 0 1\n",
+            LAST,
+            TAIL,
+        ],
         Some(Fault {
             line: 12,
             what: Follows,
@@ -110,12 +118,16 @@ pub const REPORTS: [(&str, &str, &str, Option<CheckStop>); 13] = [
     ),
     // a receipt of the packet behind the next
     (
-        CALLS,
-        "d0 load 0 0\n\
-            d1 load 2 0\n\
-            i0 bind 0 -> sent 0.1 1 0 1 0 1\n\
-            i1 receive 0 2 -> nothing\n",
-        LAST,
+        [
+            HEAD,
+            CALLS,
+            "d0 load 0 0\n\
+                d1 load 2 0\n\
+                i0 bind 0 -> sent 0.1 1 0 1 0 1\n\
+                i1 receive 0 2 -> nothing\n",
+            LAST,
+            TAIL,
+        ],
         Some(Fault {
             line: 13,
             what: Follows,
@@ -123,9 +135,7 @@ pub const REPORTS: [(&str, &str, &str, Option<CheckStop>); 13] = [
     ),
     // a call of the thread, and not its next one
     (
-        "t0 map 0 0 2 20 2 -> ok\n",
-        FIRST,
-        LAST,
+        [HEAD, "t0 map 0 0 2 20 2 -> ok\n", FIRST, LAST, TAIL],
         Some(Fault {
             line: 3,
             what: Follows,
@@ -133,9 +143,7 @@ pub const REPORTS: [(&str, &str, &str, Option<CheckStop>); 13] = [
     ),
     // a thread that isn't declared
     (
-        "t3 poll 0 -> empty\n",
-        FIRST,
-        LAST,
+        [HEAD, "t3 poll 0 -> empty\n", FIRST, LAST, TAIL],
         Some(Fault {
             line: 3,
             what: Follows,
@@ -143,9 +151,7 @@ pub const REPORTS: [(&str, &str, &str, Option<CheckStop>); 13] = [
     ),
     // a call of nobody that is no poll
     (
-        "x close 0 -> ok\n",
-        FIRST,
-        LAST,
+        [HEAD, "x close 0 -> ok\n", FIRST, LAST, TAIL],
         Some(Fault {
             line: 3,
             what: Follows,
@@ -153,9 +159,7 @@ pub const REPORTS: [(&str, &str, &str, Option<CheckStop>); 13] = [
     ),
     // a node that there isn't
     (
-        CALLS,
-        "d2 load 0 0\n",
-        LAST,
+        [HEAD, CALLS, "d2 load 0 0\n", LAST, TAIL],
         Some(Fault {
             line: 10,
             what: Follows,
@@ -163,9 +167,7 @@ pub const REPORTS: [(&str, &str, &str, Option<CheckStop>); 13] = [
     ),
     // a bind of an endpoint that is in no frame
     (
-        CALLS,
-        "i0 bind 0 -> sent 0.1 1 0 1 0 1\n",
-        LAST,
+        [HEAD, CALLS, "i0 bind 0 -> sent 0.1 1 0 1 0 1\n", LAST, TAIL],
         Some(Fault {
             line: 10,
             what: NotEnabled(Condition::NotResident),
@@ -173,20 +175,22 @@ pub const REPORTS: [(&str, &str, &str, Option<CheckStop>); 13] = [
     ),
     // a packet that has another number
     (
-        CALLS,
-        "d0 load 0 0\n\
-            d1 load 2 0\n\
-            i0 bind 0 -> sent 0.1 1 0 1 0 2\n",
-        LAST,
+        [
+            HEAD,
+            CALLS,
+            "d0 load 0 0\n\
+                d1 load 2 0\n\
+                i0 bind 0 -> sent 0.1 1 0 1 0 2\n",
+            LAST,
+            TAIL,
+        ],
         Some(Fault {
             line: 12,
             what: Outcome,
         }),
     ),
     (
-        CALLS,
-        "d0  load 0 0\n",
-        LAST,
+        [HEAD, CALLS, "d0  load 0 0\n", LAST, TAIL],
         Some(Fault {
             line: 10,
             what: Form,
@@ -194,27 +198,43 @@ pub const REPORTS: [(&str, &str, &str, Option<CheckStop>); 13] = [
     ),
     // a poll of another endpoint in place of the last: what was received is not run
     (
-        CALLS,
-        FIRST,
-        "x poll 0 -> empty\n",
+        [HEAD, CALLS, FIRST, "x poll 0 -> empty\n", TAIL],
         Some(Fault {
             line: 32,
             what: Follows,
         }),
     ),
     (
-        CALLS,
-        FIRST,
-        "x poll 1 -> ran 2.2 4\nendpoint 0 runs 2\n",
+        [
+            HEAD,
+            CALLS,
+            FIRST,
+            "x poll 1 -> ran 2.2 4\nendpoint 0 runs 2\n",
+            TAIL,
+        ],
         Some(Fault {
             line: 32,
             what: Tail,
         }),
     ),
+    // a call is left
+    (
+        [
+            "t0 poll 0\nam2 report 1\nentries 29\n",
+            CALLS,
+            FIRST,
+            LAST,
+            TAIL,
+        ],
+        Some(Fault {
+            line: 32,
+            what: Follows,
+        }),
+    ),
 ];
 
 /// Three endpoints in two frames: a message that is refused is returned.
-pub const FRAMES: &str = "am2 1\n\
+const FRAMES: &str = "am2 1\n\
     network packet\n\
     nodes 1\n\
     frames 2\n\
@@ -258,19 +278,19 @@ pub const FRAMES: &str = "am2 1\n\
     totals ran 0 returned 2 unknown 0 unknown-but-ran 0 pending 0\n";
 
 /// Two tries: what the plan of the links loses.
-pub const TRIES: &str = "am2 1\n\
+const TRIES: &str = "am2 1\n\
     network packet\n\
     nodes 1\n\
     tries 2\n";
 
-pub const ENDS: &str = "endpoint 0 0 5\n\
+const ENDS: &str = "endpoint 0 0 5\n\
     endpoint 1 0 7\n\
     thread 0 0\n";
 
-pub const LOSSES: &str = "plan 0 0 1 lose\nplan 0 0 3 lose\n";
+const LOSSES: &str = "plan 0 0 1 lose\nplan 0 0 3 lose\n";
 
 /// The script, the report up to the bind, and what comes of it where the first packet and the answer are lost.
-pub const TRIED: &str = "t0 handler 1 1 note\n\
+const TRIED: &str = "t0 handler 1 1 note\n\
     t0 map 0 0 1 7 1\n\
     t0 request 0 0 1 9 0 0 0\n\
     t0 poll 1\n\
@@ -283,7 +303,7 @@ pub const TRIED: &str = "t0 handler 1 1 note\n\
     d0 load 1 1\n\
     i0 bind 0 -> sent 0.1 0 0 1 0 1\n";
 
-pub const LOST: &str = "i0 expire 0 0 -> sent 0.1 0 0 1 1 2\n\
+const LOST: &str = "i0 expire 0 0 -> sent 0.1 0 0 1 1 2\n\
     i0 receive 0 2 -> accepted 0.1 answer 3\n\
     i0 expire 0 0 -> unknown 0.1\n\
     t0 poll 1 -> ran 0.1 1 sends 1.1\n\
@@ -302,22 +322,47 @@ pub const LOST: &str = "i0 expire 0 0 -> sent 0.1 0 0 1 1 2\n\
     fate 1.1 empty returned no-request\n\
     totals ran 0 returned 1 unknown 0 unknown-but-ran 1 pending 0\n";
 
-/// Logs that take so many entries, the plan, what comes behind the bind, and the answer: a log is full; and a binding would end too
-/// early, which comes before a full log.
-pub const FULL: [(&str, &str, &str, CheckStop); 2] = [
+/// The same with logs that take so many entries.
+const ONE_ENTRY: &str = "am2 1\n\
+    network packet\n\
+    nodes 1\n\
+    tries 2\n\
+    log 1\n";
+
+const FOUR_ENTRIES: &str = "am2 1\n\
+    network packet\n\
+    nodes 1\n\
+    tries 2\n\
+    log 4\n";
+
+/// Texts with nothing in front of them and nothing put between.
+pub static TEXTS: [Row; 5] = [
+    ([FRAMES, "", "", "", ""], None),
+    ([TRIES, ENDS, LOSSES, TRIED, LOST], None),
+    // a released packet waits, and the last try goes out
     (
-        "log 1\n",
-        LOSSES,
-        LOST,
-        LogFull(Part::Endpoint(EndpointId(0))),
+        [TRIES, ENDS, TRIED, LOST, ""],
+        Some(Fault {
+            line: 9,
+            what: Follows,
+        }),
+    ),
+    // a log is full; and a binding would end too early, which comes before a full log
+    (
+        [ONE_ENTRY, ENDS, LOSSES, TRIED, LOST],
+        Some(LogFull(Part::Endpoint(EndpointId(0)))),
     ),
     (
-        "log 4\n",
-        "plan 0 0 1 lose\n",
-        "i0 expire 0 0 -> sent 0.1 0 0 1 1 2\ni0 expire 0 0 -> unknown 0.1\n",
-        Fault {
+        [
+            FOUR_ENTRIES,
+            ENDS,
+            "plan 0 0 1 lose\n",
+            TRIED,
+            "i0 expire 0 0 -> sent 0.1 0 0 1 1 2\ni0 expire 0 0 -> unknown 0.1\n",
+        ],
+        Some(Fault {
             line: 10,
             what: Follows,
-        },
+        }),
     ),
 ];

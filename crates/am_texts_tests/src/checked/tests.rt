@@ -1,63 +1,64 @@
-//! Reports of step scripts, checked.
+//! Reports of step scripts and of runs, checked.
 
-use crate::checked::tables::{CALLS, HEAD, IDLE, REPORTS, RUNS, SCENARIO, TAIL};
-use crate::checked::texts::joined;
-use am_check::{CheckStop, CheckWhat, check_steps};
-use am_office_entries::Condition;
-use am_scenario::{ScenarioFault, What};
-use std::alloc::Global;
-use std::test::Fail;
+use crate::checked::run_tables as runs;
+use crate::checked::tables::{REPORTS, Row, SCENARIO, TEXTS};
+use crate::texts::joined;
+use am_check::{CheckStop, check_runs, check_steps};
+use am_scenario::Form;
+use std::alloc::{AllocError, Global};
+use std::process::Abort;
 
 // What the check of a text is stopped for.
-fn stop(alloc: Global, text: &str) -> Option<CheckStop> {
-    match check_steps(alloc, text.as_bytes()) {
-        Ok(()) => None,
-        Err(stop) => Some(stop),
-    }
-}
-
-// What the check of these parts, one behind another, is stopped for.
-fn stop_of(alloc: Global, parts: &[&str]) -> Result<Option<CheckStop>, Fail> {
-    let text = joined(alloc, parts)?;
-    Ok(stop(alloc, text.as_str()))
-}
-
-#[test]
-fn reports(rt: HostRuntime) -> Result<(), Fail> {
-    for (row, (head, calls, runs, tail, answer)) in REPORTS.iter().enumerate() {
-        let parts = [SCENARIO, *head, *calls, *runs, *tail];
-        assert!(rt; stop_of(rt.alloc(), parts.as_slice())? == *answer, "{row}");
-    }
-    Ok(())
-}
-
-#[test]
-fn ends_and_scenarios(rt: HostRuntime) -> Result<(), Fail> {
-    let whole = format!(in rt.alloc(); "{SCENARIO}{HEAD}{CALLS}{RUNS}{TAIL}")?;
-    let whole = whole.as_str();
-    let short = &whole[..whole.len() - 1];
-    let tail = CheckWhat::Tail;
-    assert!(rt;
-        stop(rt.alloc(), short)
-            == Some(CheckStop::Fault {
-                line: 14,
-                what: tail
-            })
-    );
-    let more = format!(in rt.alloc(); "{whole}\n")?;
-    assert!(rt;
-        stop(rt.alloc(), more.as_str())
-            == Some(CheckStop::Fault {
-                line: 15,
-                what: tail
-            })
-    );
-    let fault = ScenarioFault {
-        line: 1,
-        what: What::Missing,
+fn stop_of(alloc: Global, form: Form, text: &str) -> Option<CheckStop> {
+    let checked = match form {
+        Form::Step => check_steps(alloc, text.as_bytes()),
+        Form::Run => check_runs(alloc, text.as_bytes()),
     };
-    assert!(rt; stop(rt.alloc(), HEAD) == Some(CheckStop::Scenario(fault)));
-    let what = CheckWhat::NotEnabled(Condition::NoMessage);
-    assert!(rt; stop(rt.alloc(), IDLE) == Some(CheckStop::Fault { line: 4, what }));
-    Ok(())
+    checked.err()
+}
+
+// Five parts behind a text, with one more in front of the last two.
+fn text_of(
+    alloc: Global,
+    front: &str,
+    between: &str,
+    parts: &[&str],
+) -> Result<String, AllocError> {
+    let mut text = joined(alloc, &[front])?;
+    for (place, part) in parts.iter().enumerate() {
+        if place == 3 {
+            text.push_str(between)?;
+        }
+        text.push_str(part)?;
+    }
+    Ok(text)
+}
+
+// Stops at the first row that is answered otherwise, with these texts in front of its parts and of the last two.
+fn try_reports<R: Abort>(rt: &R, alloc: Global, form: Form, put: (&str, &str), rows: &[Row]) {
+    for (parts, stop) in rows {
+        let text = text_of(alloc, put.0, put.1, parts).expect(rt, "ample memory");
+        if stop_of(alloc, form, text.as_str()) != *stop {
+            rt.panic(text.as_str())
+        }
+    }
+}
+
+#[test]
+fn reports_of_steps_are_checked(rt: HostRuntime) {
+    try_reports(
+        &rt,
+        rt.alloc(),
+        Form::Step,
+        (SCENARIO, ""),
+        REPORTS.as_slice(),
+    );
+    try_reports(&rt, rt.alloc(), Form::Step, ("", ""), TEXTS.as_slice());
+}
+
+#[test]
+fn reports_of_runs_are_checked(rt: HostRuntime) {
+    let put = (runs::CLIENTS, runs::REST);
+    try_reports(&rt, rt.alloc(), Form::Run, put, runs::REPORTS.as_slice());
+    try_reports(&rt, rt.alloc(), Form::Run, ("", ""), runs::TEXTS.as_slice());
 }

@@ -467,7 +467,7 @@ const THREE_BOUNCES: &str = "x carry 0 -> requeued 0.17 queue-full\n\
     x carry 0 -> requeued 0.17 queue-full\n";
 
 /// Under `step`.
-pub static DIRECT: [Row; 17] = [
+pub static DIRECT: [Row; 13] = [
     (&[ONE], 0, &["am2 report 1\nentries 0\n", NOTHING_RAN]),
     (&[PATH], 0, &[PATH_REPORT]),
     (
@@ -479,6 +479,43 @@ pub static DIRECT: [Row; 17] = [
     (&[TAGS], 0, &[TAGS_REPORT]),
     (&[PAIR, INDEXES], 0, &[INDEXES_REPORT]),
     (&[PAIR, GIVING_UP], 0, &[GIVING_UP_REPORT]),
+    (&[POOLS], 0, &[POOLS_REPORT]),
+    (
+        &[SHORT_LOG, THREE_POLLS],
+        0,
+        &[
+            "am2 report 1\n\
+            entries 3\n\
+            x poll 0 -> empty\n\
+            x poll 0 -> empty\n\
+            x poll 0 -> empty\n",
+            NOTHING_RAN,
+        ],
+    ),
+    (
+        &[ONE, "x carry 0\n"],
+        3,
+        &["refused line 5 not-enabled no-message\n"],
+    ),
+    (
+        &[ONE, "x want 0\n"],
+        3,
+        &["refused line 5 not-enabled not-on-disk\n"],
+    ),
+    (
+        &[ONE, "i0 bind 0\n"],
+        3,
+        &["refused line 5 not-enabled not-packet\n"],
+    ),
+    (
+        &[ONE, "x poll 0\nd0 load 0 0\n"],
+        3,
+        &["refused line 6 not-enabled not-packet\n"],
+    ),
+];
+
+/// Under `step`: queues and tables that are full.
+pub static QUEUES: [Row; 4] = [
     (
         &[
             PAIR,
@@ -521,7 +558,6 @@ pub static DIRECT: [Row; 17] = [
             ONE_RETURNED_TOTALS,
         ],
     ),
-    (&[POOLS], 0, &[POOLS_REPORT]),
     (
         &[FIVE_INDEXES, SIXTEEN, SIXTEEN_MORE, TABLE_IS_FULL],
         0,
@@ -534,38 +570,6 @@ pub static DIRECT: [Row; 17] = [
             SIXTEEN_PENDING,
             THIRTY_TWO_TOTALS,
         ],
-    ),
-    (
-        &[SHORT_LOG, THREE_POLLS],
-        0,
-        &[
-            "am2 report 1\n\
-            entries 3\n\
-            x poll 0 -> empty\n\
-            x poll 0 -> empty\n\
-            x poll 0 -> empty\n",
-            NOTHING_RAN,
-        ],
-    ),
-    (
-        &[ONE, "x carry 0\n"],
-        3,
-        &["refused line 5 not-enabled no-message\n"],
-    ),
-    (
-        &[ONE, "x want 0\n"],
-        3,
-        &["refused line 5 not-enabled not-on-disk\n"],
-    ),
-    (
-        &[ONE, "i0 bind 0\n"],
-        3,
-        &["refused line 5 not-enabled not-packet\n"],
-    ),
-    (
-        &[ONE, "x poll 0\nd0 load 0 0\n"],
-        3,
-        &["refused line 6 not-enabled not-packet\n"],
     ),
     (
         &[

@@ -1,18 +1,10 @@
 //! Sources and sinks that fail.
 
-use crate::commands::answers::{answer_of, ends_so, sound};
-use crate::commands::tables::{CASES, COMMANDS, Device, Ending, PATH, PATH_REPORT, SOUND};
-use std::test::Fail;
-
-/// A read failed.
-const READ_FAULT: Ending = Ending {
-    status: 4,
-    printed: "read fault\n",
-    read_faults: 1,
-    write_faults: 0,
+use crate::commands::answers::{ends_so, prints_between};
+use crate::commands::tables::{
+    CASES, COMMANDS, Case, Device, Ending, PATH, PATH_REPORT, READ_FAULT, SOUND, sound,
 };
 
-/// The text, as a test takes it: a goal over the constant itself has all of its bytes.
 fn path_text() -> &'static [u8] {
     PATH.as_bytes()
 }
@@ -22,71 +14,95 @@ fn read_ending(fails: u32) -> Ending<'static> {
     if fails <= 10 {
         READ_FAULT
     } else {
-        sound(0, PATH_REPORT)
+        sound(0, PATH_REPORT.as_bytes())
+    }
+}
+
+/// The end where this write fails: the report has 22 parts of at most 16 bytes, and those in front of the one that fails are printed.
+fn write_ending(fails: u32) -> Ending<'static> {
+    let report = PATH_REPORT.as_bytes();
+    let held = (fails as usize).saturating_sub(1).saturating_mul(16);
+    if held < report.len() {
+        Ending {
+            status: 5,
+            printed: &report[..held],
+            read_faults: 0,
+            write_faults: 1,
+        }
+    } else {
+        sound(0, report)
     }
 }
 
 #[test]
-fn each_read_fails_in_turn(rt: HostRuntime) -> Result<(), Fail> {
-    for fails in 1..13u32 {
-        let source = Device { most: 16, fails };
-        let devices = (source, SOUND);
-        let wanted = read_ending(fails);
-        assert!(rt; ends_so(&rt, rt.alloc(), "step", path_text(), devices, wanted)?);
-    }
-    Ok(())
-}
-
-#[test]
-fn a_read_fails_or_a_write_fails(rt: HostRuntime) -> Result<(), Fail> {
-    for case in CASES.iter() {
-        let devices = (case.source, case.sink);
-        assert!(rt;
-            ends_so(
-                &rt,
-                rt.alloc(),
-                case.line,
-                case.text.as_bytes(),
-                devices,
-                case.ending
-            )?
+fn each_call_fails_in_turn(rt: HostRuntime) {
+    for fails in 1..25u32 {
+        let failing = Device { most: 16, fails };
+        let read = (failing, SOUND);
+        let read = ends_so(
+            &rt,
+            rt.alloc(),
+            "step",
+            path_text(),
+            read,
+            read_ending(fails),
         );
+        assert!(rt; matches!(read, Ok(true)));
+        let write = (SOUND, failing);
+        let write = ends_so(
+            &rt,
+            rt.alloc(),
+            "step",
+            path_text(),
+            write,
+            write_ending(fails),
+        );
+        assert!(rt; matches!(write, Ok(true)));
     }
-    Ok(())
 }
 
-/// The report has 22 parts of at most 16 bytes. What stands in front of the part that fails is printed.
-#[test]
-fn each_write_fails_in_turn(rt: HostRuntime) -> Result<(), Fail> {
-    for (number, part) in PATH_REPORT.as_bytes().chunks(16).enumerate() {
-        let fails = (number as u32).saturating_add(1);
-        let sink = Device { most: 16, fails };
-        let answer = answer_of(&rt, rt.alloc(), "step", PATH.as_bytes(), SOUND, sink)?;
-        assert!(rt; answer.status == 5);
-        assert!(rt; answer.sink.bytes().len() == number.saturating_mul(16));
-        assert!(rt; PATH_REPORT.as_bytes().starts_with(answer.sink.bytes()));
-        assert!(rt; !part.is_empty());
-        assert!(rt; answer.write_faults == 1);
+fn ending_of(case: &Case) -> Ending<'static> {
+    Ending {
+        status: case.status,
+        printed: case.printed.as_bytes(),
+        read_faults: case.faults.0,
+        write_faults: case.faults.1,
     }
-    Ok(())
+}
+
+#[test]
+fn a_read_fails_or_a_write_fails(rt: HostRuntime) {
+    for case in CASES.iter() {
+        let text = case.text.as_bytes();
+        let ended = ends_so(
+            &rt,
+            rt.alloc(),
+            case.line,
+            text,
+            (case.source, case.sink),
+            ending_of(case),
+        );
+        assert!(rt; matches!(ended, Ok(true)));
+    }
 }
 
 /// Each command that reads a text ends at a read fault, at a write fault, and else well.
 #[test]
-fn each_command_meets_faults(rt: HostRuntime) -> Result<(), Fail> {
+fn each_command_meets_faults(rt: HostRuntime) {
     let fails = Device { most: 16, fails: 2 };
     for (line, text, front) in COMMANDS.iter() {
-        let bytes = text.as_bytes();
+        let (bytes, printed) = (text.as_bytes(), front.as_bytes());
         let cut = Ending {
             status: 5,
-            printed: front,
+            printed,
             read_faults: 0,
             write_faults: 1,
         };
-        assert!(rt; ends_so(&rt, rt.alloc(), line, bytes, (fails, SOUND), READ_FAULT)?);
-        assert!(rt; ends_so(&rt, rt.alloc(), line, bytes, (SOUND, fails), cut)?);
-        let answer = answer_of(&rt, rt.alloc(), line, bytes, SOUND, SOUND)?;
-        assert!(rt; answer.status == 0);
+        let read = ends_so(&rt, rt.alloc(), line, bytes, (fails, SOUND), READ_FAULT);
+        assert!(rt; matches!(read, Ok(true)));
+        let write = ends_so(&rt, rt.alloc(), line, bytes, (SOUND, fails), cut);
+        assert!(rt; matches!(write, Ok(true)));
+        let whole = prints_between(&rt, rt.alloc(), line, text, (*front, "\n"));
+        assert!(rt; matches!(whole, Ok(true)));
     }
-    Ok(())
 }

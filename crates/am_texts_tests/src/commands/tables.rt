@@ -30,6 +30,9 @@ pub const PATH_REPORT: &str = "am2 report 1\n\
 /// The parts of a text, the status and the parts of what is printed.
 pub type Row = (&'static [&'static str], u8, &'static [&'static str]);
 
+/// A text, the status and what is printed.
+pub type Told = (&'static str, u8, &'static str);
+
 /// How a source or a sink fails: how many bytes a call moves, and the call that fails, counted from 1, or `NEVER`.
 #[derive(Clone, Copy)]
 pub struct Device {
@@ -55,19 +58,39 @@ pub const SLOW: Device = Device {
 #[derive(Clone, Copy)]
 pub struct Ending<'a> {
     pub status: u8,
-    pub printed: &'a str,
+    pub printed: &'a [u8],
     pub read_faults: u64,
     pub write_faults: u64,
 }
 
-/// What a command comes to over a source and a sink.
+/// That of a command which met no fault.
+pub fn sound(status: u8, printed: &[u8]) -> Ending {
+    Ending {
+        status,
+        printed,
+        read_faults: 0,
+        write_faults: 0,
+    }
+}
+
+/// A read failed.
+pub const READ_FAULT: Ending = Ending {
+    status: 4,
+    printed: b"read fault\n",
+    read_faults: 1,
+    write_faults: 0,
+};
+
+/// What a command comes to over a source and a sink: its status, what the sink holds, and how many reads and writes failed.
 #[derive(Clone, Copy)]
 pub struct Case {
     pub line: &'static str,
     pub text: &'static str,
     pub source: Device,
     pub sink: Device,
-    pub ending: Ending<'static>,
+    pub status: u8,
+    pub printed: &'static str,
+    pub faults: (u64, u64),
 }
 
 pub static CASES: [Case; 7] = [
@@ -82,12 +105,9 @@ pub static CASES: [Case; 7] = [
             most: 1,
             fails: NEVER,
         },
-        ending: Ending {
-            status: 0,
-            printed: PATH_REPORT,
-            read_faults: 0,
-            write_faults: 0,
-        },
+        status: 0,
+        printed: PATH_REPORT,
+        faults: (0, 0),
     },
     Case {
         line: "step",
@@ -97,24 +117,18 @@ pub static CASES: [Case; 7] = [
             most: 512,
             fails: NEVER,
         },
-        ending: Ending {
-            status: 4,
-            printed: "read fault\n",
-            read_faults: 1,
-            write_faults: 0,
-        },
+        status: 4,
+        printed: "read fault\n",
+        faults: (1, 0),
     },
     Case {
         line: "step",
         text: PATH,
         source: Device { most: 1, fails: 1 },
         sink: Device { most: 1, fails: 1 },
-        ending: Ending {
-            status: 5,
-            printed: "",
-            read_faults: 1,
-            write_faults: 1,
-        },
+        status: 5,
+        printed: "",
+        faults: (1, 1),
     },
     Case {
         line: "step",
@@ -124,12 +138,9 @@ pub static CASES: [Case; 7] = [
             fails: NEVER,
         },
         sink: Device { most: 16, fails: 2 },
-        ending: Ending {
-            status: 5,
-            printed: "am2 report 1\nent",
-            read_faults: 0,
-            write_faults: 1,
-        },
+        status: 5,
+        printed: "am2 report 1\nent",
+        faults: (0, 1),
     },
     // It reads nothing, so no read of it fails.
     Case {
@@ -137,12 +148,9 @@ pub static CASES: [Case; 7] = [
         text: "",
         source: Device { most: 16, fails: 1 },
         sink: Device { most: 16, fails: 2 },
-        ending: Ending {
-            status: 5,
-            printed: "am2 make 1\ncalls",
-            read_faults: 0,
-            write_faults: 1,
-        },
+        status: 5,
+        printed: "am2 make 1\ncalls",
+        faults: (0, 1),
     },
     // A line that fails to be written leaves its front, and is not tried again: the usage line, and what is told of a fault.
     Case {
@@ -150,29 +158,23 @@ pub static CASES: [Case; 7] = [
         text: PATH,
         source: SOUND,
         sink: Device { most: 8, fails: 2 },
-        ending: Ending {
-            status: 5,
-            printed: "usage: a",
-            read_faults: 0,
-            write_faults: 1,
-        },
+        status: 5,
+        printed: "usage: a",
+        faults: (0, 1),
     },
     Case {
         line: "step",
         text: "am2 1\nspeed 3\n",
         source: SOUND,
         sink: Device { most: 8, fails: 2 },
-        ending: Ending {
-            status: 5,
-            printed: "refused ",
-            read_faults: 0,
-            write_faults: 1,
-        },
+        status: 5,
+        printed: "refused ",
+        faults: (0, 1),
     },
 ];
 
 /// The words of a command that reads a text, such a text, and the first 16 bytes of its report.
-pub const COMMANDS: [(&str, &str, &str); 4] = [
+pub static COMMANDS: [(&str, &str, &str); 4] = [
     ("step", PATH, "am2 report 1\nent"),
     (
         "run",

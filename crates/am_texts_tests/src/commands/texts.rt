@@ -1,76 +1,64 @@
 //! Texts with the status and what is printed of each.
-use crate::commands::tables::{PATH, PATH_REPORT, Row};
-use am_main::Command;
+use crate::commands::tables::{PATH, PATH_REPORT, Row, Told};
 
 /// A step script whose one step is not enabled.
-pub const IDLE: &str = "am2 1\n\
+const IDLE: &str = "am2 1\n\
     network direct\n\
     nodes 1\n\
     endpoint 0 0 5\n\
     x carry 0\n";
 
 /// Under `step`: the first fault of a text.
-pub static FAULTS: [Row; 11] = [
-    (&[], 3, &["refused line 1 missing\n"]),
+pub static FAULTS: [Told; 11] = [
+    ("", 3, "refused line 1 missing\n"),
     (
-        &[
-            "am2 1\n\
+        "am2 1\n\
             network direct\n\
             nodes 17\n",
-        ],
         3,
-        &["refused line 3 out-of-range\n"],
+        "refused line 3 out-of-range\n",
     ),
-    (&["am2 1\nnodes x\n"], 3, &["refused line 2 bad-number\n"]),
+    ("am2 1\nnodes x\n", 3, "refused line 2 bad-number\n"),
     (
-        &["am2 1\nnodes 18446744073709551616\n"],
+        "am2 1\nnodes 18446744073709551616\n",
         3,
-        &["refused line 2 bad-number\n"],
+        "refused line 2 bad-number\n",
     ),
     (
-        &[
-            "am2 1\n\
+        "am2 1\n\
             nodes 1\n\
             nodes 1\n",
-        ],
         3,
-        &["refused line 3 twice\n"],
+        "refused line 3 twice\n",
     ),
     (
-        &[
-            "am2 1\n\
+        "am2 1\n\
             nodes 1\n\
             endpoint 0 0 5\n",
-        ],
         3,
-        &["refused line 3 missing\n"],
+        "refused line 3 missing\n",
     ),
     (
-        &[
-            "am2 1\n\
+        "am2 1\n\
             network direct\n\
             nodes 1\n\
             x poll 0\n",
-        ],
         3,
-        &["refused line 4 undeclared\n"],
+        "refused line 4 undeclared\n",
     ),
-    (&["am2 1\nspeed 3\n"], 3, &["refused line 2 unknown-word\n"]),
-    (&["\t\n"], 3, &["refused line 1 not-text\n"]),
+    ("am2 1\nspeed 3\n", 3, "refused line 2 unknown-word\n"),
+    ("\t\n", 3, "refused line 1 not-text\n"),
     (
-        &[
-            "am2 1\n\
+        "am2 1\n\
             network direct\n\
             nodes 1\n\
             endpoint 0 0 5\n\
             frames 2\n",
-        ],
         3,
-        &["refused line 5 out-of-place\n"],
+        "refused line 5 out-of-place\n",
     ),
     (
-        &[
-            "am2 1\n\
+        "am2 1\n\
             network packet\n\
             nodes 1\n\
             thread 0 0\n\
@@ -78,109 +66,82 @@ pub static FAULTS: [Row; 11] = [
             thread 2 0\n\
             thread 3 0\n\
             thread 4 0\n",
-        ],
         3,
-        &["refused line 8 too-many\n"],
+        "refused line 8 too-many\n",
     ),
 ];
 
 /// Two nodes; the third endpoint begins on disk.
-const TWO_NODES: &str = "am2 1\n\
+pub const TWO_NODES: &str = "am2 1\n\
     network packet\n\
     nodes 2\n\
     endpoint 0 0 5\n\
     endpoint 1 1 7\n\
     endpoint 2 0 9 disk\n";
 
-/// Steps of two nodes under `step`: the first condition that fails is named.
-pub static CONDITIONS: [Row; 15] = [
+/// Steps of two nodes under `step`, behind `TWO_NODES`: the first condition that fails is named.
+pub static CONDITIONS: [Told; 15] = [
+    ("x poll 2\n", 3, "refused line 7 not-enabled on-disk\n"),
+    ("x want 0\n", 3, "refused line 7 not-enabled not-on-disk\n"),
+    ("x carry 0\n", 3, "refused line 7 not-enabled not-direct\n"),
+    ("i1 bind 0\n", 3, "refused line 7 not-enabled other-node\n"),
     (
-        &[TWO_NODES, "x poll 2\n"],
+        "i0 bind 0\n",
         3,
-        &["refused line 7 not-enabled on-disk\n"],
+        "refused line 7 not-enabled not-resident\n",
     ),
     (
-        &[TWO_NODES, "x want 0\n"],
-        3,
-        &["refused line 7 not-enabled not-on-disk\n"],
-    ),
-    (
-        &[TWO_NODES, "x carry 0\n"],
-        3,
-        &["refused line 7 not-enabled not-direct\n"],
-    ),
-    (
-        &[TWO_NODES, "i1 bind 0\n"],
-        3,
-        &["refused line 7 not-enabled other-node\n"],
-    ),
-    (
-        &[TWO_NODES, "i0 bind 0\n"],
-        3,
-        &["refused line 7 not-enabled not-resident\n"],
-    ),
-    (
-        &[
-            TWO_NODES,
-            "d0 load 0 0\n\
+        "d0 load 0 0\n\
             d0 drain 0\n\
             i0 bind 0\n",
-        ],
         3,
-        &["refused line 9 not-enabled draining\n"],
+        "refused line 9 not-enabled draining\n",
     ),
     (
-        &[TWO_NODES, "d0 load 0 0\ni0 bind 0\n"],
+        "d0 load 0 0\ni0 bind 0\n",
         3,
-        &["refused line 8 not-enabled no-message\n"],
+        "refused line 8 not-enabled no-message\n",
     ),
     (
-        &[
-            TWO_NODES,
-            "x map 0 0 1 7 4\n\
+        "x map 0 0 1 7 4\n\
             d0 load 0 0\n\
             x request 0 0 1 0 0 0 0\n\
             x request 0 0 1 0 0 0 0\n\
             i0 bind 0\n\
             i0 bind 0\n",
-        ],
         3,
-        &["refused line 12 not-enabled no-channel\n"],
+        "refused line 12 not-enabled no-channel\n",
+    ),
+    ("i0 expire 1 0\n", 3, "refused line 7 not-enabled idle\n"),
+    (
+        "i0 receive 1 1\n",
+        3,
+        "refused line 7 not-enabled no-packet\n",
     ),
     (
-        &[TWO_NODES, "i0 expire 1 0\n"],
+        "d0 drain 0\n",
         3,
-        &["refused line 7 not-enabled idle\n"],
+        "refused line 7 not-enabled not-resident\n",
     ),
     (
-        &[TWO_NODES, "i0 receive 1 1\n"],
+        "d0 load 0 0\nd0 unload 0\n",
         3,
-        &["refused line 7 not-enabled no-packet\n"],
+        "refused line 8 not-enabled not-draining\n",
     ),
     (
-        &[TWO_NODES, "d0 drain 0\n"],
+        "d0 load 2 0\n",
         3,
-        &["refused line 7 not-enabled not-resident\n"],
+        "refused line 7 not-enabled not-on-host\n",
     ),
     (
-        &[TWO_NODES, "d0 load 0 0\nd0 unload 0\n"],
+        "x close 0\nd0 load 0 0\n",
         3,
-        &["refused line 8 not-enabled not-draining\n"],
+        "refused line 8 not-enabled closed\n",
     ),
     (
-        &[TWO_NODES, "d0 load 2 0\n"],
+        "d0 pagein 0\n",
         3,
-        &["refused line 7 not-enabled not-on-host\n"],
-    ),
-    (
-        &[TWO_NODES, "x close 0\nd0 load 0 0\n"],
-        3,
-        &["refused line 8 not-enabled closed\n"],
-    ),
-    (
-        &[TWO_NODES, "d0 pagein 0\n"],
-        3,
-        &["refused line 7 not-enabled not-on-disk\n"],
+        "refused line 7 not-enabled not-on-disk\n",
     ),
 ];
 
@@ -264,7 +225,16 @@ pub static CHECKS: [Row; 8] = [
 ];
 
 /// The words, a text, the status and what is printed.
-pub static COUNTS: [(&str, &[u8], u8, &[u8]); 8] = [
+pub static COUNTS: [(&str, &[u8], u8, &[u8]); 9] = [
+    (
+        "count 8 10000",
+        b"",
+        0,
+        b"am2 count 8 10000\n\
+            words 0\n\
+            long 0\n\
+            left 0\n",
+    ),
     (
         "count 2 0",
         b"b a b\n",
@@ -361,21 +331,66 @@ pub static COUNTS: [(&str, &[u8], u8, &[u8]); 8] = [
     ),
 ];
 
-/// Words with what they ask for.
-pub static FORMS: [(&str, Command); 5] = [
-    ("step", Command::Step),
-    ("run", Command::Run),
-    ("make 0", Command::Make(0)),
+/// The words, a text, and what its report begins and ends with.
+pub static FRAMED: [(&str, &str, &str, &str); 5] = [
     (
-        "make 18446744073709551615",
-        Command::Make(18_446_744_073_709_551_615),
+        "make 0",
+        "",
+        "am2 make 0\ncalls 1744\nentries ",
+        " pending 0\n",
     ),
     (
-        "count 8 10000",
-        Command::Count {
-            nodes: 8,
-            turns: 10_000,
-        },
+        "make 1",
+        "",
+        "am2 make 1\ncalls 1744\nentries ",
+        " pending 0\n",
+    ),
+    (
+        "make 18446744073709551615",
+        "",
+        "am2 make 18446744073709551615\ncalls 1744\nentries ",
+        " pending 0\n",
+    ),
+    // Two bytes of a segment are written; and none, where the link loses each try of their message.
+    (
+        "segments",
+        "am2 1\n\
+            network packet\n\
+            nodes 1\n\
+            endpoint 0 0 5\n\
+            endpoint 1 0 7\n\
+            thread 0 0\n\
+            segment 1 1 4\n\
+            t0 handler 1 1 note\n\
+            t0 map 0 0 1 7 1\n\
+            t0 xfer 0 0 1 1 6869\n\
+            t0 poll 1\n",
+        "am2 report 1\nentries ",
+        "\nsegment 1 1 4\n\
+            00686900\n\
+            transfer 1 ran 1 of 1\n",
+    ),
+    (
+        "segments",
+        "am2 1\n\
+            network packet\n\
+            nodes 1\n\
+            endpoint 0 0 5\n\
+            endpoint 1 0 7\n\
+            thread 0 0\n\
+            plan 0 0 1 lose\n\
+            plan 0 0 2 lose\n\
+            plan 0 0 3 lose\n\
+            plan 0 0 4 lose\n\
+            segment 1 1 4\n\
+            t0 handler 1 1 note\n\
+            t0 map 0 0 1 7 1\n\
+            t0 xfer 0 0 1 1 6869\n\
+            t0 poll 1\n",
+        "am2 report 1\nentries ",
+        "\nsegment 1 1 4\n\
+            00000000\n\
+            transfer 1 ran 0 of 1\n",
     ),
 ];
 

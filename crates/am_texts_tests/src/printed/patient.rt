@@ -3,7 +3,6 @@
 ghost use Rattle.std.specs.Prelude.{Some};
 
 use am_io::{Failed, MemorySource, Source, take_all};
-use std::test::Fail;
 
 /// Tries a read that failed once more by itself. It tells of both, and has failed where both did.
 #[derive(Drop)]
@@ -42,10 +41,13 @@ impl Source for Patient {
 
 /// The second read fails, and where the third does too, that is the end.
 #[test]
-fn a_read_is_tried_again(rt: HostRuntime) -> Result<(), Fail> {
+fn a_read_is_tried_again(rt: HostRuntime) {
     for (fails, faults, is_read) in [([2, 9], 1, true), ([2, 3], 2, false)] {
-        let bytes = Vec::from_slice(rt.alloc(), b"twenty bytes of text")?;
-        let fails = Vec::from_slice(rt.alloc(), &fails)?;
+        let bytes = Vec::from_slice(rt.alloc(), b"twenty bytes of text").expect(
+            &rt,
+            "ample memory",
+        );
+        let fails = Vec::from_slice(rt.alloc(), &fails).expect(&rt, "ample memory");
         let mut source = Patient {
             inner: MemorySource::new(bytes, 7, fails),
             told: 0,
@@ -55,5 +57,4 @@ fn a_read_is_tried_again(rt: HostRuntime) -> Result<(), Fail> {
         assert!(rt; source.faults() == faults);
         assert!(rt; source.failures == u64::from(!is_read));
     }
-    Ok(())
 }

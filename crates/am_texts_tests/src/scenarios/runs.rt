@@ -1,9 +1,10 @@
 //! Small texts of runs, each with the line and the cause of its first fault, worked out by hand from the rules.
 
+use crate::readers::Row;
 use am_lexer::What;
 
 /// A run.
-pub static RUNS: [(&str, u32, What); 38] = [
+pub static RUNS: [Row; 38] = [
     ("am2 1\nnetwork direct\n", 2, What::OutOfRange),
     ("am2 1\nnetwork direct more\n", 2, What::OutOfRange),
     (

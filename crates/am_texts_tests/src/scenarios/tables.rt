@@ -1,9 +1,10 @@
 //! Small texts, each with the line and the cause of its first fault, worked out by hand from the rules.
 
+use crate::readers::Row;
 use am_lexer::What;
 
 /// The first words, the version and what is missing, in a step script.
-pub static FIRST_LINES: [(&str, u32, What); 32] = [
+pub static FIRST_LINES: [Row; 32] = [
     ("", 1, What::Missing),
     ("\n", 2, What::Missing),
     ("am2 1", 2, What::Missing),
@@ -43,7 +44,7 @@ pub static FIRST_LINES: [(&str, u32, What); 32] = [
 ];
 
 /// The settings, in a step script.
-pub static SETTINGS: [(&str, u32, What); 52] = [
+pub static SETTINGS: [Row; 52] = [
     ("am2 1\nnetwork\n", 2, What::Missing),
     ("am2 1\nnetwork ring\n", 2, What::UnknownWord),
     ("am2 1\nnetwork direct more\n", 2, What::UnknownWord),
@@ -99,7 +100,7 @@ pub static SETTINGS: [(&str, u32, What); 52] = [
 ];
 
 /// What is declared, in a step script.
-pub static DECLARATIONS: [(&str, u32, What); 47] = [
+pub static DECLARATIONS: [Row; 47] = [
     ("am2 1\nnodes 1\nendpoint 0 0 5\n", 3, What::Missing),
     ("am2 1\nnetwork packet\nthread 0 0\n", 3, What::Missing),
     ("am2 1\nnodes 1\nendpoint\n", 3, What::Missing),
@@ -318,7 +319,7 @@ pub static DECLARATIONS: [(&str, u32, What); 47] = [
 ];
 
 /// The events of a step script.
-pub static EVENTS: [(&str, u32, What); 68] = [
+pub static EVENTS: [Row; 68] = [
     (
         "am2 1\nnetwork packet\nnodes 2\nendpoint 0 0 5\nx\n",
         5,

@@ -1,17 +1,18 @@
 //! Small texts, each with the line and the cause of its first fault, worked out by hand from the rules.
 
+use crate::readers::Row;
 use am_lexer::What;
 
 /// Two endpoints and a thread, in six lines.
-pub static HEAD: &str = "am2 1\n\
+pub const HEAD: &str = "am2 1\n\
     network packet\n\
     nodes 1\n\
     endpoint 0 0 5\n\
     endpoint 1 0 7\n\
     thread 0 0\n";
 
-/// Lines behind the head, with faults of own lines.
-pub static OWN_FAULTS: [(&str, u32, What); 54] = [
+/// Lines behind the head: faults of own lines, and then those of the expanded text alone.
+pub static FAULTS: [Row; 63] = [
     ("segment", 7, What::Missing),
     ("segment x 1 4", 7, What::BadNumber),
     ("segment 2 1 4", 7, What::Undeclared),
@@ -74,10 +75,6 @@ pub static OWN_FAULTS: [(&str, u32, What); 54] = [
     ("t0 serve 1 1 1", 7, What::UnknownWord),
     ("bogus\nt0 serve 2 1", 8, What::Undeclared),
     ("t9 serve 2 1", 7, What::Undeclared),
-];
-
-/// Lines behind the head, with faults of the expanded text alone.
-pub static OTHER_FAULTS: [(&str, u32, What); 9] = [
     ("segment 1 1 4\nbogus", 8, What::UnknownWord),
     ("t0 serve 1 3\nbogus\n", 8, What::UnknownWord),
     (

@@ -1,11 +1,15 @@
 //! Small texts, each with what is printed or the line and the cause of its first fault, worked out by hand from the rules.
 
+use crate::commands::tables::Told;
+use crate::readers::Row;
 use am_lexer::What;
 
-/// Texts without a fault whose events can all happen, and their reports.
-pub static REPORTS: [(&str, &str); 7] = [
+/// Texts with the status and what is printed of each: texts without a fault whose events can all happen, and then texts whose last
+/// event can't happen.
+pub static SESSIONS: [Told; 14] = [
     (
         "am2session 1\ntries 2\n",
+        0,
         "session report 1\n\
             entries 0\n\
             messages 0\n",
@@ -22,6 +26,7 @@ pub static REPORTS: [(&str, &str); 7] = [
             b restart\n\
             b receive 2 accept\n\
             a receive 2\n",
+        0,
         "session report 1\n\
             entries 8\n\
             a hello -> sent 1\n\
@@ -49,6 +54,7 @@ pub static REPORTS: [(&str, &str); 7] = [
             b receive 2 accept\n\
             a receive 3\n\
             a receive 2\n",
+        0,
         "session report 1\n\
             entries 10\n\
             a hello -> sent 1\n\
@@ -85,6 +91,7 @@ pub static REPORTS: [(&str, &str); 7] = [
             b receive 2 accept\n\
             a receive 5\n\
             a restart\n",
+        0,
         "session report 1\n\
             entries 17\n\
             a hello -> sent 1\n\
@@ -122,6 +129,7 @@ pub static REPORTS: [(&str, &str); 7] = [
             b receive 3 accept\n\
             a receive 2\n\
             a offer\n",
+        0,
         "session report 1\n\
             entries 10\n\
             a hello -> sent 1\n\
@@ -154,6 +162,7 @@ pub static REPORTS: [(&str, &str); 7] = [
             a receive 1\n\
             a receive 2\n\
             b receive 2 accept\n",
+        0,
         "session report 1\n\
             entries 12\n\
             a hello -> sent 1\n\
@@ -174,20 +183,18 @@ pub static REPORTS: [(&str, &str); 7] = [
     // Comments, blank lines, spaces and leading zeros.
     (
         "# a session\n\n  am2session   01\n tries 002\n#a offer\na  offer",
+        0,
         "session report 1\n\
             entries 1\n\
             a offer -> ok 1\n\
             messages 1\n\
             fate 1 pending\n",
     ),
-];
-
-/// Texts whose last event can't happen, and the line that tells it.
-pub static STOPS: [(&str, &str); 7] = [
     (
         "am2session 1\n\
             tries 2\n\
             a bind\n",
+        3,
         "refused line 3 not-enabled unknown-peer\n",
     ),
     (
@@ -198,6 +205,7 @@ pub static STOPS: [(&str, &str); 7] = [
             a receive 1\n\
             \n\
             a bind\n",
+        3,
         "refused line 7 not-enabled no-message\n",
     ),
     (
@@ -210,18 +218,21 @@ pub static STOPS: [(&str, &str); 7] = [
             a bind\n\
             a bind\n\
             a bind\n",
+        3,
         "refused line 8 not-enabled bound\n",
     ),
     (
         "am2session 1\n\
             tries 2\n\
             a expire\n",
+        3,
         "refused line 3 not-enabled idle\n",
     ),
     (
         "am2session 1\n\
             tries 2\n\
             a receive 1\n",
+        3,
         "refused line 3 not-enabled no-packet\n",
     ),
     (
@@ -229,6 +240,7 @@ pub static STOPS: [(&str, &str); 7] = [
             tries 2\n\
             a hello\n\
             b receive 2 bad\n",
+        3,
         "refused line 4 not-enabled no-packet\n",
     ),
     // A fault of the text comes before anything that the events do.
@@ -237,12 +249,13 @@ pub static STOPS: [(&str, &str); 7] = [
             tries 2\n\
             a bind\n\
             a fly\n",
+        3,
         "refused line 4 unknown-word\n",
     ),
 ];
 
 /// The faults of texts.
-pub static FAULTS: [(&str, u32, What); 38] = [
+pub static FAULTS: [Row; 38] = [
     ("", 1, What::Missing),
     ("\n# c\n", 3, What::Missing),
     ("am2session 1", 2, What::Missing),
