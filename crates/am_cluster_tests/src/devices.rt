@@ -1,17 +1,19 @@
 //! A disk of another make than the cluster's own, in a turn of a driver.
 
 ghost use Rattle.am_cluster_opening.specs.Crews.{IsCrew};
+ghost use Rattle.am_scenario_types.specs.Lawful.{IsLawful};
+ghost use Rattle.am_scenario_types.specs.declared.parts.Network.TheVariants.{Packet};
 ghost use Rattle.std.specs.Prelude.{◌≡◌, ◌∷◌, [], IfSome};
 
-use crate::page_log::PageLog;
+use crate::far_disk::FarDisk;
+use crate::workloads::scenario_of;
 use am_cluster_opening::{NodeCrew, open_crews};
 use am_driver::{DriverTurn, EndView, View, driver_turn};
 use am_names::{EndpointId, NodeId};
 use am_office_entries::{Entry, Event, Outcome};
-use am_scenario::{Form, Scenario, read};
-use am_swap_device::{Look, Swap};
+use am_scenario::Scenario;
+use am_swap_device::{Look, MemorySwap, Swap};
 use std::alloc::Global;
-use std::test::Fail;
 
 /// Nothing is to stay on the host.
 const CROWDED: &str = "am2 1\nnetwork packet\nnodes 1\nkeep 0\nturns 1\nendpoint 0 0 5\n";
@@ -34,7 +36,7 @@ fn turn_with(
     scenario: &Scenario,
     node: NodeId,
     crew: &mut NodeCrew,
-    log: &mut PageLog,
+    disk: &mut FarDisk,
 ) -> Option<DriverTurn>
     requires crew { IsCrew scenario.now node 0 crew.old }
 {
@@ -50,40 +52,43 @@ fn turn_with(
         node,
         &crew.places,
         &mut driver.seat,
-        log,
+        disk,
         &mut driver.view,
         &mut driver.clock,
     )
     .ok()
 }
 
-/// What the first turn of a driver makes, with this disk.
-fn first_move(alloc: Global, log: &mut PageLog) -> Result<Option<Entry>, Fail> {
-    let scenario = read(alloc, Form::Run, CROWDED.as_bytes())?;
-    let Ok(mut crews) = open_crews(alloc, &scenario) else {
-        return Err("no memory")?;
+/// What the first turn of the driver of node 0 makes, with this disk.
+fn first_move(alloc: Global, scenario: &Scenario, disk: &mut FarDisk) -> Option<Entry>
+    requires lawful { IsLawful scenario.now }
+    requires packet { scenario.now.network ≡ Packet }
+{
+    let Ok(mut crews) = open_crews(alloc, scenario) else {
+        return None;
     };
     let Some(crew) = crews.get_mut(0) else {
-        return Ok(None);
+        return None;
     };
-    match turn_with(alloc, &scenario, NodeId(0), crew, log) {
-        Some(DriverTurn::Did(entry)) => Ok(Some(entry)),
-        _ => Ok(None),
+    match turn_with(alloc, scenario, NodeId(0), crew, disk) {
+        Some(DriverTurn::Did(entry)) => Some(entry),
+        _ => None,
     }
 }
 
-/// A driver pages out to it: the page is written, or fails where the log is full.
+/// A driver pages out to it: the page is written, or the write fails, which is the disk's first or second call.
 #[test]
-fn a_driver_pages_out_to_a_log_of_pages(rt: HostRuntime) -> Result<(), Fail> {
-    for (most, outcome, faults) in [(1, Outcome::Done, 0), (0, Outcome::Failed, 1)] {
-        let mut log = PageLog::new(rt.alloc(), most);
-        let Some(entry) = first_move(rt.alloc(), &mut log)? else {
-            return Err("no move")?;
+fn a_driver_pages_out_to_a_far_disk(rt: HostRuntime) {
+    let scenario = scenario_of(&rt, rt.alloc(), CROWDED);
+    for (failing, outcome, faults) in [(2, Outcome::Done, 0), (1, Outcome::Failed, 1)] {
+        let fails = Vec::from_slice(rt.alloc(), &[failing]).expect(&rt, "a list");
+        let mut disk = FarDisk {
+            disk: MemorySwap::new(rt.alloc(), fails),
         };
+        let entry = first_move(rt.alloc(), &scenario, &mut disk).expect(&rt, "a move");
         assert!(rt; matches!(entry.event, Event::PageOut { .. }));
         assert!(rt; entry.outcome == outcome);
-        assert!(rt; log.look(FIRST).is_some() == (faults == 0));
-        assert!(rt; log.faults() == faults);
+        assert!(rt; disk.look(FIRST).is_some() == (faults == 0));
+        assert!(rt; disk.faults() == faults);
     }
-    Ok(())
 }

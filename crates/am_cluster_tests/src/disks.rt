@@ -1,13 +1,12 @@
 //! Runs in which a node's disk fails: in a turn of its driver, and in the drain.
 
 use crate::gates::{Hold, HoldingGate};
-use crate::phases::hold;
+use crate::workloads::scenario_of;
 use am_cluster::run;
-use am_office_entries::{Entry, NoMemory};
+use am_office_entries::Entry;
 use am_office_text::entry_lines::entry_line;
-use am_scenario::{Form, read};
 use std::alloc::Global;
-use std::test::Fail;
+use std::process::Abort;
 use std::thread::Threads;
 
 /// A thread whose endpoint begins on disk, worker 0. Worker 1 is the interface, and worker 2 the driver. The first read of the disk fails.
@@ -50,37 +49,36 @@ const CROWDED: &str = "am2 1\n\
 const WRITTEN_AGAIN: &str = "d0 pageout 0 -> failed\nd0 pageout 0 -> ok\n";
 
 /// The lines of the first entries, so many at most.
-fn first_lines(alloc: Global, entries: &[Entry], count: usize) -> Result<Vec<u8>, NoMemory> {
+fn first_lines(rt: &impl Abort, alloc: Global, entries: &[&Entry], count: usize) -> Vec<u8> {
     let mut lines = Vec::new(alloc);
     for entry in entries.iter().take(count) {
-        entry_line(entry, &mut lines)?;
+        entry_line(entry, &mut lines).expect(rt, "a line");
     }
-    Ok(lines)
+    lines
 }
 
 /// Whether a run whose workers are held so begins with these lines.
-pub fn begins<R: Threads + Sync>(
+pub fn begins<R: Threads + Abort + Sync>(
     rt: &R,
     alloc: Global,
     text: &str,
     holds: &[Hold],
     lines: &str,
-) -> Result<bool, Fail> {
+) -> bool {
     let gate = HoldingGate::new(holds);
-    let scenario = read(alloc, Form::Run, text.as_bytes())?;
-    let finished = run(rt, alloc, &scenario, &gate)?;
-    let journal = finished.journal.copied(alloc)?;
-    let made = first_lines(alloc, &journal.entries, lines.lines().count())?;
-    Ok(gate.held_in_vain() == 0 && made.as_slice() == lines.as_bytes())
+    let scenario = scenario_of(rt, alloc, text);
+    let finished = run(rt, alloc, &scenario, &gate).expect(rt, "a run");
+    let journal = finished.journal.logged(alloc).expect(rt, "a journal");
+    let made = first_lines(rt, alloc, journal.entries(), lines.lines().count());
+    gate.held_in_vain() == 0 && made.as_slice() == lines.as_bytes()
 }
 
 #[test]
-fn what_fails_is_tried_again(rt: HostRuntime) -> Result<(), Fail> {
+fn what_fails_is_tried_again(rt: HostRuntime) {
     let alloc = rt.alloc();
-    let in_step = [hold(2, 0, 0, 1), hold(0, 1, 2, 2), hold(2, 2, 0, 2)];
-    assert!(rt; begins(&rt, alloc, ON_DISK, &in_step, READ_AGAIN_IN_TURNS)?);
-    assert!(rt; begins(&rt, alloc, ON_DISK_ALONE, &[], READ_AGAIN_IN_THE_DRAIN)?);
-    let driver_first = [hold(0, 0, 1, 2)];
-    assert!(rt; begins(&rt, alloc, CROWDED, &driver_first, WRITTEN_AGAIN)?);
-    Ok(())
+    let in_step = [((2, 0), (0, 1)), ((0, 1), (2, 2)), ((2, 2), (0, 2))];
+    assert!(rt; begins(&rt, alloc, ON_DISK, &in_step, READ_AGAIN_IN_TURNS));
+    assert!(rt; begins(&rt, alloc, ON_DISK_ALONE, &[], READ_AGAIN_IN_THE_DRAIN));
+    let driver_first = [((0, 0), (1, 2))];
+    assert!(rt; begins(&rt, alloc, CROWDED, &driver_first, WRITTEN_AGAIN));
 }

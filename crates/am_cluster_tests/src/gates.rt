@@ -1,4 +1,4 @@
-//! A gate that holds workers back, so that a test can order their turns.
+//! Gates that hold workers back, so that a test can order their turns.
 
 use am_cluster::Gate;
 use std::sync::atomic::{AtomicU32, AtomicU64, Ordering};
@@ -8,19 +8,11 @@ use std::{hint, thread};
 /// How often a worker that is held looks for the other before it goes on.
 const LOOKS: u32 = 100_000_000;
 
-/// A turn of a worker, both counted from 0. Workers are counted as `Gate` does.
-#[derive(Clone, Copy)]
-pub struct Moment {
-    pub worker: u32,
-    pub turn: u32,
-}
+/// A worker and a turn of it, both counted from 0. Workers are counted as `Gate` does.
+pub type Moment = (u32, u32);
 
 /// A worker is held in a turn until another one has come to one of its own.
-#[derive(Clone, Copy)]
-pub struct Hold {
-    pub held: Moment,
-    pub until: Moment,
-}
+pub type Hold = (Moment, Moment);
 
 /// A gate that holds workers, of at most four. It counts the turns that each has come to, and those who waited in vain.
 #[derive(Drop)]
@@ -50,24 +42,13 @@ impl<'a> HoldingGate<'a> {
         self.in_vain.load(Ordering::SeqCst)
     }
 
-    /// Tells that a worker has come to a turn.
-    fn tell(&self, moment: Moment) {
-        if let Some(turns) = self.come.get(moment.worker as usize) {
-            turns.store(moment.turn.saturating_add(1), Ordering::SeqCst);
-        }
-    }
-
-    fn has_come(&self, moment: Moment) -> bool {
-        match self.come.get(moment.worker as usize) {
-            Some(turns) => turns.load(Ordering::SeqCst) > moment.turn,
-            None => false,
-        }
-    }
-
-    /// Looks until the moment has come, or in vain.
-    fn look_for(&self, moment: Moment) {
+    /// Looks until a worker has come to a turn, or in vain.
+    fn look_for(&self, worker: u32, turn: u32) {
+        let Some(turns) = self.come.get(worker as usize) else {
+            return;
+        };
         for _ in 0..LOOKS {
-            if self.has_come(moment) {
+            if turns.load(Ordering::SeqCst) > turn {
                 return;
             }
             hint::spin_loop();
@@ -78,10 +59,12 @@ impl<'a> HoldingGate<'a> {
 
 impl Gate for HoldingGate<'_> {
     fn pass(&self, worker: u32, turn: u32) {
-        self.tell(Moment { worker, turn });
-        for hold in self.holds {
-            if hold.held.worker == worker && hold.held.turn == turn {
-                self.look_for(hold.until);
+        if let Some(turns) = self.come.get(worker as usize) {
+            turns.store(turn.saturating_add(1), Ordering::SeqCst);
+        }
+        for (held, until) in self.holds {
+            if held.0 == worker && held.1 == turn {
+                self.look_for(until.0, until.1);
             }
         }
     }
@@ -111,11 +94,6 @@ impl<'a, C: Clock> StepGate<'a, C> {
             in_vain: AtomicU64::new(0),
         }
     }
-
-    /// The number of turns in which a worker went on before all had come.
-    pub fn held_in_vain(&self) -> u64 {
-        self.in_vain.load(Ordering::SeqCst)
-    }
 }
 
 impl<C: Clock> Gate for StepGate<'_, C> {
@@ -123,7 +101,8 @@ impl<C: Clock> Gate for StepGate<'_, C> {
         let due = self.workers.saturating_mul(u64::from(turn) + 1);
         self.passes.fetch_add(1, Ordering::SeqCst);
         for _ in 0..STEP_LOOKS {
-            if self.passes.load(Ordering::SeqCst) >= due || self.held_in_vain() > 0 {
+            let in_vain = self.in_vain.load(Ordering::SeqCst);
+            if in_vain > 0 || self.passes.load(Ordering::SeqCst) >= due {
                 return;
             }
             thread::sleep(self.clock, Duration::from_micros(STEP_SLEEP));

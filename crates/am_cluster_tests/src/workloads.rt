@@ -1,14 +1,13 @@
-//! Scenarios for tests, and what no thread of them has made yet.
+//! Scenarios for tests.
 
 ghost use Rattle.am_scenario_types.specs.Lawful.{IsLawful};
 ghost use Rattle.am_scenario_types.specs.declared.parts.Network.TheVariants.{Packet};
-ghost use Rattle.am_scenario_types.specs.declared.parts.ThreadLine.{ThreadLine};
-ghost use Rattle.am_model_scripts.specs.Scripts.{calls_of};
-ghost use Rattle.std.specs.Prelude.{◌≡◌, ◌≤◌, [], IfOk, length, map};
+ghost use Rattle.std.specs.Prelude.{◌≡◌, ◌≤◌, IfOk};
 
 use am_office_entries::NoMemory;
-use am_scenario::{Scenario, generate};
-use std::alloc::{AllocError, Global};
+use am_scenario::{Form, Scenario, generate, read};
+use std::alloc::Global;
+use std::process::Abort;
 
 /// The made workload with a number of turns, 0 to 10,000.
 pub fn workload(alloc: Global, turns: u32) -> Result<Scenario, NoMemory>
@@ -21,13 +20,13 @@ pub fn workload(alloc: Global, turns: u32) -> Result<Scenario, NoMemory>
     Ok(Scenario { turns, ..scenario })
 }
 
-/// The number of calls that each thread made before the first entry.
-pub fn no_calls(alloc: Global, scenario: &Scenario) -> Result<Vec<u32>, AllocError>
-    ensures { IfOk result (λ made. made.items ≡ map (λ (t : ThreadLine). length (calls_of t.id [])) scenario.now.threads) }
+/// The scenario of a text of the packet network.
+pub fn scenario_of(rt: &impl Abort, alloc: Global, text: &str) -> Scenario
+    ensures lawful { IsLawful result }
+    ensures packet { result.network ≡ Packet }
 {
-    let mut made = Vec::new(alloc);
-    for _ in &scenario.threads {
-        made.push(0)?;
-    }
-    Ok(made)
+    let Ok(scenario) = read(alloc, Form::Run, text.as_bytes()) else {
+        rt.panic("no scenario")
+    };
+    scenario
 }

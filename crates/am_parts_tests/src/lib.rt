@@ -1,10 +1,8 @@
-//! Tests of the parts of the machine: blocks, merges of logs, swaps, interfaces and endpoints; and of what threads share, links and places.
+//! Tests of the parts of the machine: blocks, endpoints and swaps; and of what threads share, links and places.
 #![tactic(auto)]
 
 mod blocks;
 mod endpoints;
-mod interfaces;
 mod links;
-mod merges;
 mod places;
 mod swaps;

@@ -1,17 +1,13 @@
 //! A scenario whose run comes to the same end in whatever order its workers take turns. Each takes one before the drain: a thread sets the
 //! server's handler or maps the client's index, so no request is made before both are done.
 
-ghost use Rattle.std.specs.Prelude.{◌≡◌, IfOk};
-ghost use Rattle.am_scenario_types.specs.Lawful.{IsLawful};
-ghost use Rattle.am_scenario_types.specs.declared.parts.Network.TheVariants.{Packet};
-
 use am_library::calls::poll;
 use am_library::lines::repeated;
-use am_library::{Draft, DraftFault, Setting};
+use am_library::{Draft, Setting};
 use am_names::{EndpointId, NodeId, Tag, Words};
 use am_office_entries::HandlerKind;
-use am_scenario_types::Scenario;
 use std::alloc::Global;
+use std::process::Abort;
 
 pub const SERVER: EndpointId = EndpointId(0);
 
@@ -28,48 +24,52 @@ pub fn words(first: u64) -> Words {
 }
 
 /// Node 0 has the server, whose handler 1 adds.
-fn serve(draft: &mut Draft) -> Result<EndpointId, DraftFault> {
-    let server = draft.endpoint(NodeId(0), Tag(100))?;
-    let thread = draft.thread(NodeId(0))?;
-    draft.handler(thread, server, 1, HandlerKind::Add(2))?;
-    draft.calls(&[poll(thread, server), poll(thread, server)])?;
-    Ok(server)
+fn serve(rt: &impl Abort, draft: &mut Draft) -> EndpointId {
+    let server = draft.endpoint(NodeId(0), Tag(100)).expect(rt, "the server");
+    let thread = draft.thread(NodeId(0)).expect(rt, "its thread");
+    assert!(rt;
+        draft
+            .handler(thread, server, 1, HandlerKind::Add(2))
+            .is_ok()
+    );
+    assert!(rt;
+        draft
+            .calls(&[poll(thread, server), poll(thread, server)])
+            .is_ok()
+    );
+    server
 }
 
 /// Node 1 has the client, which asks for 3, 4 and 5; the third request is for a handler that isn't set.
-fn ask(draft: &mut Draft, server: EndpointId) -> Result<(), DraftFault> {
-    let client = draft.endpoint(NodeId(1), Tag(7))?;
-    let thread = draft.thread(NodeId(1))?;
-    draft.map(thread, client, 0, server, Tag(100), 3)?;
-    draft.request(thread, client, 0, 1, words(3))?;
-    draft.request(thread, client, 0, 1, words(4))?;
-    draft.request(thread, client, 0, 9, words(5))?;
-    draft.poll(thread, client)
+fn ask(rt: &impl Abort, draft: &mut Draft, server: EndpointId) {
+    let client = draft.endpoint(NodeId(1), Tag(7)).expect(rt, "the client");
+    let thread = draft.thread(NodeId(1)).expect(rt, "its thread");
+    assert!(rt; draft.map(thread, client, 0, server, Tag(100), 3).is_ok());
+    assert!(rt; draft.request(thread, client, 0, 1, words(3)).is_ok());
+    assert!(rt; draft.request(thread, client, 0, 1, words(4)).is_ok());
+    assert!(rt; draft.request(thread, client, 0, 9, words(5)).is_ok());
+    assert!(rt; draft.poll(thread, client).is_ok());
 }
 
 /// The first request is lost once, the first reply is late until it is sent again, and the answer to it comes twice. So would a packet that is
 /// never sent.
-fn withhold(draft: &mut Draft) -> Result<(), DraftFault> {
-    draft.lose(NodeId(1), NodeId(0), 1)?;
-    draft.late(NodeId(0), NodeId(1), 2, 1)?;
-    draft.repeat(NodeId(1), NodeId(0), 3)?;
-    draft.plans(&[repeated(NodeId(1), NodeId(0), 1_000)])
+fn withhold(rt: &impl Abort, draft: &mut Draft) {
+    assert!(rt; draft.lose(NodeId(1), NodeId(0), 1).is_ok());
+    assert!(rt; draft.late(NodeId(0), NodeId(1), 2, 1).is_ok());
+    assert!(rt; draft.repeat(NodeId(1), NodeId(0), 3).is_ok());
+    assert!(rt;
+        draft
+            .plans(&[repeated(NodeId(1), NodeId(0), 1_000)])
+            .is_ok()
+    );
 }
 
 /// The draft.
-pub fn draft(alloc: Global) -> Result<Draft, DraftFault> {
-    let mut draft = Draft::new(alloc, 2)?;
-    draft.set(Setting::Turns(1))?;
-    let server = serve(&mut draft)?;
-    ask(&mut draft, server)?;
-    withhold(&mut draft)?;
-    Ok(draft)
-}
-
-/// The scenario.
-pub fn scenario(alloc: Global) -> Result<Scenario, DraftFault>
-    ensures lawful { IfOk result IsLawful }
-    ensures packet { IfOk result (λ scenario. scenario.network ≡ Packet) }
-{
-    Ok(draft(alloc)?.finish())
+pub fn draft(rt: &impl Abort, alloc: Global) -> Draft {
+    let mut draft = Draft::new(alloc, 2).expect(rt, "a draft");
+    assert!(rt; draft.set(Setting::Turns(1)).is_ok());
+    let server = serve(rt, &mut draft);
+    ask(rt, &mut draft, server);
+    withhold(rt, &mut draft);
+    draft
 }

@@ -2,11 +2,12 @@
 
 ghost use Rattle.std.specs.Thread.{IsSync};
 
-use crate::library::drafts::{CLIENT, SERVER, draft, scenario, words};
+use crate::library::drafts::{CLIENT, SERVER, draft, words};
 use am_library::{Account, AtOnce, BySeed, DrainAlone, Runner, first_word_at, sum_at};
 use am_names::{Cause, Serial, Words};
 use am_office_entries::Fate;
 use std::alloc::Global;
+use std::process::Abort;
 use std::test::Fail;
 use std::thread::Threads;
 
@@ -26,10 +27,12 @@ fn reply_words(account: &Account, count: u32) -> Option<Words> {
 
 #[test]
 fn each_request_has_its_fate_and_reply(rt: HostRuntime) -> Result<(), Fail> {
-    let scenario = scenario(rt.alloc())?;
-    let finished = DrainAlone.run(&rt, rt.alloc(), &scenario)?;
-    let journal = finished.journal.logged(rt.alloc())?;
-    let account = Account::of(rt.alloc(), &journal)?;
+    let scenario = draft(&rt, rt.alloc()).finish();
+    let finished = DrainAlone
+        .run(&rt, rt.alloc(), &scenario)
+        .expect(&rt, "a run");
+    let journal = finished.journal.logged(rt.alloc()).expect(&rt, "a journal");
+    let account = Account::of(rt.alloc(), &journal).expect(&rt, "an account");
     assert!(rt; account.fate_of(request(2)) == Some(Fate::Ran));
     assert!(rt; account.fate_of(request(3)) == Some(Fate::Returned(Cause::BadHandler)));
     assert!(rt; account.fate_of(request(4)).is_none());
@@ -40,18 +43,17 @@ fn each_request_has_its_fate_and_reply(rt: HostRuntime) -> Result<(), Fail> {
 }
 
 /// The sum that the server has after a run by this runner.
-fn sum_by<R: Runner, T: Threads + Sync>(runner: &R, rt: &T, alloc: Global) -> Result<u64, Fail>
+fn sum_by<R: Runner, T: Threads + Abort + Sync>(runner: &R, rt: &T, alloc: Global) -> u64
     requires shared { IsSync T.row }
 {
-    let finished = draft(alloc)?.run(runner, rt, alloc)?;
-    let journal = finished.journal.logged(alloc)?;
-    Ok(sum_at(&journal, SERVER))
+    let finished = draft(rt, alloc).run(runner, rt, alloc).expect(rt, "a run");
+    let journal = finished.journal.logged(alloc).expect(rt, "a journal");
+    sum_at(&journal, SERVER)
 }
 
 #[test]
-fn each_runner_comes_to_the_same_sum(rt: HostRuntime) -> Result<(), Fail> {
-    assert!(rt; sum_by(&DrainAlone, &rt, rt.alloc())? == 7);
-    assert!(rt; sum_by(&BySeed(7), &rt, rt.alloc())? == 7);
-    assert!(rt; sum_by(&AtOnce, &rt, rt.alloc())? == 7);
-    Ok(())
+fn each_runner_comes_to_the_same_sum(rt: HostRuntime) {
+    assert!(rt; sum_by(&DrainAlone, &rt, rt.alloc()) == 7);
+    assert!(rt; sum_by(&BySeed(7), &rt, rt.alloc()) == 7);
+    assert!(rt; sum_by(&AtOnce, &rt, rt.alloc()) == 7);
 }

@@ -1,116 +1,72 @@
-//! What no clause says: that a block is made where there is memory, that it is freed, and that it goes to another thread.
+//! What no clause says: that a block is made where there is memory, and that it is freed.
 
-ghost use Rattle.std.specs.Prelude.{◌≡◌, ◌<◌};
+use am_block::{Block, List};
 
-use am_block::{Block, List, Slot};
-use std::alloc::{AllocError, Global};
-use std::marker::Send;
-use std::test::Fail;
-
-const ROUND: [List; 6] = [
+const ROUND: [List; 7] = [
     List::Free,
     List::Requests,
     List::Replies,
     List::InFlight,
     List::Notices,
     List::Received,
+    List::Free,
 ];
 
-// The slots of a list, front first.
-fn listed(alloc: Global, block: &Block, list: List) -> Result<Vec<u8>, AllocError> {
-    let mut slots = Vec::new(alloc);
+// Whether these are the slots of a list, front first.
+fn is_list(block: &Block, list: List, plain: &[u8]) -> bool {
     let mut next = block.front(list);
-    for _ in 0..block.len(list) {
+    for wanted in plain {
         let Some(slot) = next else {
-            return Ok(slots);
+            return false;
         };
-        slots.push(slot.0)?;
-        next = block.after(slot);
-    }
-    Ok(slots)
-}
-
-// How many slots of a list have their own number written down.
-fn marked(block: &Block, list: List) -> u8 {
-    let mut count = 0;
-    let mut next = block.front(list);
-    for _ in 0..block.len(list) {
-        let Some(slot) = next else {
-            return count;
-        };
-        if block.get(slot).used == slot.0 {
-            count += 1;
+        if slot.0 != *wanted {
+            return false;
         }
         next = block.after(slot);
     }
-    count
+    next.is_none()
 }
 
-// Moves the second slot of a list, or else its only one.
-fn move_second(block: &mut Block, from: List, to: List) -> Option<Slot> {
-    let first = block.front(from)?;
-    let slot = block.after(first).unwrap_or(first);
-    block.get_mut(slot).used = slot.0;
-    block.move_slot(slot, to);
-    Some(slot)
-}
-
-// The same in a plain list.
-fn take_second(plain: &mut Vec<u8>) -> Option<u8> {
-    if plain.len() > 1 {
-        Some(plain.remove(1))
-    } else {
-        plain.pop()
-    }
-}
-
-// Moves each slot of a list on to another, and the plain list beside it, which is compared at every move.
-fn go_on(
-    alloc: Global,
-    block: &mut Block,
-    plain: Vec<u8>,
-    from: List,
-    to: List,
-) -> Result<Vec<u8>, Fail> {
-    let mut rest = plain;
-    let mut gone = Vec::new(alloc);
-    for _ in 0..128 {
-        let slot = move_second(block, from, to).ok_or("a slot is missing")?;
-        let wanted = take_second(&mut rest).ok_or("a plain slot is missing")?;
-        gone.push(wanted)?;
-        if slot.0 != wanted
-            || listed(alloc, block, from)? != rest
-            || listed(alloc, block, to)? != gone
-        {
-            return Err("the lists differ".into());
+// Moves each slot of a list on to another, always the second or else its only one. Beside it a plain list is parted into those that have
+// gone and the others, which both lists are compared with at every move.
+fn go_on(block: &mut Block, plain: &mut [u8; 128], from: List, to: List) -> bool {
+    for gone in 0..128_usize {
+        let Some(first) = block.front(from) else {
+            return false;
+        };
+        block.move_slot(block.after(first).unwrap_or(first), to);
+        if gone < 127 {
+            plain.swap(gone, gone + 1);
+        }
+        if !is_list(block, to, &plain[..gone + 1]) || !is_list(block, from, &plain[gone + 1..]) {
+            return false;
         }
     }
-    Ok(gone)
+    true
 }
 
 #[test]
-fn goes_round(rt: HostRuntime) -> Result<(), Fail> {
-    let alloc = rt.alloc();
-    let mut block = Block::new(alloc, 128).ok().ok_or("no memory")?;
-    let mut plain = listed(alloc, &block, List::Free)?;
-    assert_eq!(rt; plain.len(), 128);
-    for step in 0..6 {
-        plain = go_on(alloc, &mut block, plain, ROUND[step], ROUND[(step + 1) % 6])?;
+fn goes_round(rt: HostRuntime) {
+    let mut block = Block::new(rt.alloc(), 128).expect(&rt, "a block");
+    let mut plain = [0; 128];
+    for slot in 0..128_u8 {
+        plain[slot as usize] = slot;
     }
-    assert_eq!(rt; marked(&block, List::Free), 128);
-    Ok(())
+    assert!(rt; is_list(&block, List::Free, &plain));
+    for step in 0..6 {
+        assert!(rt; go_on(&mut block, &mut plain, ROUND[step], ROUND[step + 1]));
+    }
 }
 
 // The front of each list goes on to the next, until each of the six has slots; then the block ends.
 #[test]
-fn ends_with_slots_in_every_list(rt: HostRuntime) -> Result<(), Fail> {
-    let mut block = Block::new(rt.alloc(), 128).ok().ok_or("no memory")?;
+fn ends_with_slots_in_every_list(rt: HostRuntime) {
+    let mut block = Block::new(rt.alloc(), 128).expect(&rt, "a block");
     for step in 0..5 {
         for _ in 0..120 - 20 * step {
             let _ = block.move_front(ROUND[step], ROUND[step + 1]);
         }
     }
-    let block = sent(block);
     for (list, wanted) in [
         (List::Free, 8),
         (List::Requests, 20),
@@ -119,13 +75,6 @@ fn ends_with_slots_in_every_list(rt: HostRuntime) -> Result<(), Fail> {
         (List::Notices, 20),
         (List::Received, 40),
     ] {
-        assert_eq!(rt; block.len(list), wanted);
+        assert!(rt; block.len(list) == wanted);
     }
-    Ok(())
-}
-
-fn sent<T: Send>(value: T) -> T
-    ensures { result ≡ value }
-{
-    value
 }

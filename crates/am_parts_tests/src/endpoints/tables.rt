@@ -42,12 +42,6 @@ impl Model for Table {
 }
 
 impl Table {
-    fn new() -> Table {
-        Table {
-            table: Translate::new(None),
-        }
-    }
-
     /// Maps an index with eight credits.
     fn map(&mut self, index: u8) -> Result<(), MapFault> {
         self.table.map(index, TARGET.name, TARGET.tag, 8)
@@ -70,7 +64,9 @@ impl Table {
 
 #[test]
 fn a_table_fills(rt: HostRuntime) {
-    let mut table = Table::new();
+    let mut table = Table {
+        table: Translate::new(None),
+    };
     for index in 0..5 {
         assert!(rt; table.map(index) == Ok(()));
     }

@@ -1,19 +1,13 @@
 //! Links on one thread and between two.
 
-ghost use Rattle.std.specs.Prelude.{◌+◌, ◌*◌, ◌<◌, IfOk};
 ghost use Rattle.am_wire.specs.Links.{IsLink, SameLink};
 
 use am_names::{AnswerPacket, NodeId, Packet, Verdict};
 use am_scenario_plan::{LinkFault, PlanLine};
 use am_wire::{LinkIn, LinkOut, make_link};
 use std::alloc::Global;
-use std::test::Fail;
+use std::process::Abort;
 use std::thread;
-
-// The packet at a place, emitted at the stamp 100 + that place.
-fn packet(place: u32) -> Packet {
-    answer(place, 100 + u64::from(place))
-}
 
 fn answer(number: u32, stamp: u64) -> Packet {
     Packet::Answer(AnswerPacket {
@@ -72,12 +66,12 @@ fn gives(inn: &mut LinkIn, row: &[(u32, u64)]) -> bool {
     inn.next().is_none()
 }
 
-// Offers the packets from 1 to the last, and pumps after each.
-fn offer_all(out: &mut LinkOut, last: u32) -> bool
+// Offers seven packets, each emitted at the stamp 100 + its number, and pumps after each.
+fn offer_all(out: &mut LinkOut) -> bool
     ensures { SameLink out.old out.new }
 {
-    for place in 0..last {
-        if out.offer(packet(place + 1)).is_err() {
+    for number in 1..=7_u32 {
+        if out.offer(answer(number, 100 + u64::from(number))).is_err() {
             return false;
         }
         out.pump();
@@ -87,42 +81,38 @@ fn offer_all(out: &mut LinkOut, last: u32) -> bool
 
 fn sends(out: LinkOut) -> bool {
     let mut out = out;
-    offer_all(&mut out, 7)
-}
-
-fn receives(inn: LinkIn) -> bool {
-    let mut inn = inn;
-    gives(&mut inn, &RELEASED)
+    offer_all(&mut out)
 }
 
 // The link with this plan.
-fn opened(alloc: Global) -> Result<(LinkOut, LinkIn), Fail>
-    ensures { IfOk result (λ ends. IsLink ends.0 ends.1) }
+fn opened(rt: &impl Abort, alloc: Global) -> (LinkOut, LinkIn)
+    ensures { IsLink result.0 result.1 }
 {
-    let plan = Vec::from_slice(alloc, &PLAN)?;
-    Ok(make_link(alloc, plan, NodeId(0), NodeId(1))?)
+    let plan = Vec::from_slice(alloc, &PLAN).expect(rt, "a plan");
+    let Ok(ends) = make_link(alloc, plan, NodeId(0), NodeId(1)) else {
+        rt.panic("no link")
+    };
+    ends
 }
 
 #[test]
-fn on_one_thread_with_and_without_beside(rt: HostRuntime) -> Result<(), Fail> {
+fn on_one_thread_with_and_without_beside(rt: HostRuntime) {
     for look in [true, false] {
-        let (mut out, mut inn) = opened(rt.alloc())?;
+        let (mut out, mut inn) = opened(&rt, rt.alloc());
         assert!(rt; inn.next().is_none());
-        assert!(rt; offer_all(&mut out, 7));
+        assert!(rt; offer_all(&mut out));
         if look {
             inn.beside(&mut out);
         }
         assert!(rt; gives(&mut inn, &RELEASED));
     }
-    Ok(())
 }
 
+// A thread of its own offers and pumps, and has ended when this one receives.
 #[test]
-fn from_one_thread_to_another(rt: HostRuntime) -> Result<(), Fail> {
-    let (out, inn) = opened(rt.alloc())?;
+fn from_one_thread_to_another(rt: HostRuntime) {
+    let (out, mut inn) = opened(&rt, rt.alloc());
     let (offered, _) = thread::join(&rt, move || sends(out), || true);
     assert!(rt; offered);
-    let (given, _) = thread::join(&rt, move || receives(inn), || true);
-    assert!(rt; given);
-    Ok(())
+    assert!(rt; gives(&mut inn, &RELEASED));
 }

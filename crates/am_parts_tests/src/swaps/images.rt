@@ -7,10 +7,11 @@ use am_office_entries::Place;
 
 pub const SOURCE: EndpointId = EndpointId(0);
 
-pub const FRESH: [u8; 62] = [
+/// The image of a fresh body, and a zero byte behind it.
+pub const FRESH: [u8; 63] = [
     0x41, 0x4d, 0x32, 0x49, 1, 0, 0, 0, 0, 0, 0, 0, 7, 0, 0, 0, 0, 0, 0, 0, 0, 0, 0, 0, 0, 0, 0, 0,
     0, 0, 0, 0, 0, 0, 0, 0, 0, 0, 0, 0, 0, 0, 0, 0, 0, 0, 0, 0, 0, 0, 0, 0, 0, 0, 0, 0, 0, 0, 0, 0,
-    0, 0,
+    0, 0, 0,
 ];
 
 // The tag is 7, the sum 0, and one message was accepted; index 0 is mapped to endpoint 1 under tag 7 with one credit;

@@ -4,40 +4,34 @@ use crate::swaps::images::{ASKING, FRESH, RECORD, REQUEST, SETTINGS, SOURCE};
 use am_endpoint_body::Body;
 use am_names::Tag;
 use am_swap::{decode, encode};
-use std::alloc::Global;
 use std::process::Abort;
-use std::test::Fail;
 
-/// No body has a prefix of the image, nor the image with a byte more.
-fn only_the_whole_is_decoded(rt: &impl Abort, alloc: Global, image: &[u8]) -> Result<(), Fail> {
-    for end in 0..image.len() {
-        let found = decode(alloc, SOURCE, None, &image[..end])?;
-        assert!(rt; found.is_none());
+#[test]
+fn a_fresh_body_is_encoded(rt: HostRuntime) {
+    let Ok(fresh) = Body::opening(rt.alloc(), &SETTINGS) else {
+        rt.panic("no body")
+    };
+    let image = encode(rt.alloc(), &fresh).expect(&rt, "an image");
+    assert!(rt; image.as_slice() == &FRESH[..62]);
+    for (bytes, is_image) in [
+        (&FRESH[..61], false),
+        (&FRESH[..62], true),
+        (&FRESH[..63], false),
+    ] {
+        let found = decode(rt.alloc(), SOURCE, None, bytes).expect(&rt, "an answer");
+        assert!(rt; found.is_some() == is_image);
     }
-    let mut longer = Vec::from_slice(alloc, image)?;
-    longer.push(0)?;
-    let found = decode(alloc, SOURCE, None, longer.as_slice())?;
-    assert!(rt; found.is_none());
-    Ok(())
 }
 
 #[test]
-fn a_fresh_body_is_encoded(rt: HostRuntime) -> Result<(), Fail> {
-    let alloc = rt.alloc();
-    let fresh = Body::opening(alloc, &SETTINGS)?;
-    assert!(rt; encode(alloc, &fresh)?.as_slice() == FRESH.as_slice());
-    only_the_whole_is_decoded(&rt, alloc, FRESH.as_slice())
-}
-
-#[test]
-fn a_body_with_a_request_is_decoded(rt: HostRuntime) -> Result<(), Fail> {
-    let alloc = rt.alloc();
-    let found = decode(alloc, SOURCE, None, ASKING.as_slice())?;
-    let asking = found.ok_or("no body")?;
+fn a_body_with_a_request_is_decoded(rt: HostRuntime) {
+    let Ok(Some(asking)) = decode(rt.alloc(), SOURCE, None, ASKING.as_slice()) else {
+        rt.panic("no body")
+    };
     assert!(rt; asking.tag == Tag(7));
     assert!(rt; asking.accepted == 1);
     assert!(rt; asking.front() == Some(REQUEST));
     assert!(rt; asking.translate.records() == [RECORD].as_slice());
-    assert!(rt; encode(alloc, &asking)?.as_slice() == ASKING.as_slice());
-    only_the_whole_is_decoded(&rt, alloc, ASKING.as_slice())
+    let image = encode(rt.alloc(), &asking).expect(&rt, "an image");
+    assert!(rt; image.as_slice() == ASKING.as_slice());
 }

@@ -1,4 +1,0 @@
-//! Tests of interfaces.
-
-#[cfg(test)]
-mod slots;
