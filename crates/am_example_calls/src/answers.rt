@@ -3,6 +3,7 @@
 ghost use Rattle.std.specs.Prelude.{◌≡◌, ◌∷◌, [], IfOk, List, OnOk, fold, length, replicate};
 ghost use Rattle.std.specs.Thread.{IsSync};
 ghost use Rattle.am_scenario_plan.specs.declared.plan.PlanLine.{PlanLine};
+ghost use Rattle.am_library.specs.Drafts.{started};
 ghost use Rattle.am_example_calls.specs.declared.answers.Answer.TheVariants.{NeverRan};
 ghost use Rattle.am_example_calls.specs.Answers.{after_run, noted};
 ghost use Rattle.am_example_calls.specs.Calls.{AreAnswered};
@@ -55,10 +56,9 @@ fn hear(answers: &mut [Answer], runs: &[Run])
 }
 
 // Thread 0 sets up the server, which echoes, and thread 1 the client, whose index 0 leads there.
-fn set_up(alloc: Global, plan: &[PlanLine]) -> Result<Draft, DraftFault>
-    ensures { IfOk result (IsSetUp plan.now) }
+fn set_up(draft: &mut Draft, plan: &[PlanLine]) -> Result<(), DraftFault>
+    ensures { draft.old ≡ started 2 → OnOk result (IsSetUp plan.now draft.new) }
 {
-    let mut draft = Draft::new(alloc, 2)?;
     draft.set(Setting::Tries(2))?;
     draft.set(Setting::Turns(1_000))?;
     draft.on_each_node(Tag(100))?;
@@ -67,7 +67,7 @@ fn set_up(alloc: Global, plan: &[PlanLine]) -> Result<Draft, DraftFault>
         handler(0, SERVER, 1, HandlerKind::Echo(1)),
         map(1, CLIENT, 0, SERVER, Tag(100), 8),
     ])?;
-    Ok(draft)
+    Ok(())
 }
 
 // A call is asked for where it has no answer yet: the client asks and polls, and the server polls twice.
@@ -123,7 +123,8 @@ pub fn answers_to<R: Runner, T: Threads + Sync>(
     laws::what_ran_was_asked_for();
     let mut answers = none_ran(alloc, arguments.len())?;
     for plan in plans {
-        let mut draft = set_up(alloc, plan)?;
+        let mut draft = Draft::new(alloc, 2)?;
+        set_up(&mut draft, plan)?;
         ask_all(&mut draft, arguments, &answers)?;
         let finished = draft.run(runner, rt, alloc)?;
         let journal = finished.journal.logged(alloc)?;

@@ -20,4 +20,4 @@ loop-plan-preserved g c =
     round_added laws c.args.arguments.now c.args.plans.now c.loop-plan.plan-index c.plan-item.result c.loop-plan.answers.len c.loop-plan.answers.items
     c.deref-in-loop-plan.result.now c.deref_mut.result.now c.hear.new.answers c.deref.result.now c.ask_all.new.draft c.loop-plan-test.true
     c.plan-item.is many c.deref-in-loop-plan.ensures.value c.deref.ensures.value c.deref_mut.ensures.value
-    (c.in_ok-ask_all.ensures c.deref.result.now c.in_ok-draft.ensures) told c.loop-plan.invariant
+    (c.in_ok-ask_all.ensures c.deref.result.now (c.in_ok-set_up.ensures c.in_ok-draft.ensures.ok)) told c.loop-plan.invariant
