@@ -38,14 +38,28 @@ fn put_texts(
     text.extend_from_slice(back.as_bytes())
 }
 
+// Five texts, one behind the other.
+fn joined(
+    alloc: Global,
+    front: &str,
+    journal: &[u8],
+    middle: &str,
+    picture: &[u8],
+    back: &str,
+) -> Result<Vec<u8>, AllocError>
+    ensures { IfOk result (λ text. text.items ≡ front.now ++ journal.now ++ middle.now ++ picture.now ++ back.now) }
+{
+    let mut text = Vec::from_slice(alloc, front.as_bytes())?;
+    put_texts(&mut text, journal, middle, picture, back)?;
+    Ok(text)
+}
+
 // The page round a journal and a picture.
 #[tactic(auto, unfolding(crate::specs::Page::Pages::page_of))]
 fn page_text(alloc: Global, journal: &[u8], picture: &[u8]) -> Result<Vec<u8>, AllocError>
     ensures { IfOk result (λ text. text.items ≡ page_of journal.now picture.now) }
 {
-    let mut text = Vec::from_slice(alloc, FRONT.as_bytes())?;
-    put_texts(&mut text, journal, MIDDLE, picture, BACK)?;
-    Ok(text)
+    joined(alloc, FRONT, journal, MIDDLE, picture, BACK)
 }
 
 // The page of a report whose journal is told, or why it isn't drawn.
