@@ -1,7 +1,7 @@
 //! Which words might stand at a place of a line.
 
 ghost use Rattle.am_lab_reasons.specs.Refusals.Faults as rules;
-ghost use Rattle.am_lab_reasons.specs.Refusals.Stands.{first_standing, heads, is_undeclared, limits, limits_down, number_words, range_words, stands, values, verbs, word_if};
+ghost use Rattle.am_lab_reasons.specs.Refusals.Stands.{first_standing, heads, is_undeclared, limits, limits_down, number_words, plain_words, range_words, stands, values, verbs, word_if};
 ghost use Rattle.am_lexer.specs.Text.{words_of};
 ghost use Rattle.std.specs.List.{flat_map};
 ghost use Rattle.std.specs.Prelude.{◌≡◌, ◌++◌, IfOk, OnOk, codes, option_map};
@@ -155,7 +155,30 @@ fn put_numbers_of(
     }
 }
 
-// Appends which numbers may stand there, of the limits.
+// The least number that may stand there, of the limits.
+fn least_of<'a>(
+    alloc: Global,
+    form: Form,
+    number: u32,
+    front: &[u8],
+) -> Result<Option<&'a [u8]>, NoMemory>
+    ensures { IfOk result (λ word. option_map (λ w. w.now) word ≡ first_standing form number front.now limits) }
+{
+    first_standing(alloc, form, number, front, LIMITS)
+}
+
+// The greatest.
+fn greatest_of<'a>(
+    alloc: Global,
+    form: Form,
+    number: u32,
+    front: &[u8],
+) -> Result<Option<&'a [u8]>, NoMemory>
+    ensures { IfOk result (λ word. option_map (λ w. w.now) word ≡ first_standing form number front.now limits_down) }
+{
+    first_standing(alloc, form, number, front, LIMITS_DOWN)
+}
+
 fn put_numbers(
     out: &mut Vec<u8>,
     alloc: Global,
@@ -166,10 +189,62 @@ fn put_numbers(
     ensures { OnOk result (out.new.items ≡ out.old.items ++ number_words (is_undeclared (rules.fault_in form number (front.now ++ codes "256"))) (first_standing form number front.now limits) (first_standing form number front.now limits_down)) }
 {
     let declared = are_declared(alloc, form, number, front)?;
-    let least = first_standing(alloc, form, number, front, LIMITS)?;
-    let greatest = first_standing(alloc, form, number, front, LIMITS_DOWN)?;
+    let least = least_of(alloc, form, number, front)?;
+    let greatest = greatest_of(alloc, form, number, front)?;
     put_numbers_of(out, declared, least, greatest)?;
     Ok(())
+}
+
+fn put_heads(
+    out: &mut Vec<u8>,
+    alloc: Global,
+    form: Form,
+    number: u32,
+    front: &[u8],
+) -> Result<(), NoMemory>
+    ensures { OnOk result (out.new.items ≡ out.old.items ++ flat_map (word_if form number front.now) heads) }
+{
+    put_words(out, alloc, form, number, front, HEADS)
+}
+
+fn put_verbs(
+    out: &mut Vec<u8>,
+    alloc: Global,
+    form: Form,
+    number: u32,
+    front: &[u8],
+) -> Result<(), NoMemory>
+    ensures { OnOk result (out.new.items ≡ out.old.items ++ flat_map (word_if form number front.now) verbs) }
+{
+    put_words(out, alloc, form, number, front, VERBS)
+}
+
+fn put_values(
+    out: &mut Vec<u8>,
+    alloc: Global,
+    form: Form,
+    number: u32,
+    front: &[u8],
+) -> Result<(), NoMemory>
+    ensures { OnOk result (out.new.items ≡ out.old.items ++ flat_map (word_if form number front.now) values) }
+{
+    put_words(out, alloc, form, number, front, VALUES)
+}
+
+// Appends which words that are no numbers may stand there.
+#[tactic(auto, using(std::proofs::Common::append_assoc))]
+fn put_plain(
+    out: &mut Vec<u8>,
+    alloc: Global,
+    form: Form,
+    number: u32,
+    front: &[u8],
+) -> Result<(), NoMemory>
+    ensures { OnOk result (out.new.items ≡ out.old.items ++ plain_words form number front.now) }
+{
+    put_heads(out, alloc, form, number, front)?;
+    put_verbs(out, alloc, form, number, front)?;
+    put_values(out, alloc, form, number, front)
 }
 
 /// Appends which words might stand behind the text of a line.
@@ -184,9 +259,7 @@ pub(crate) fn put_stands(
     ensures { OnOk result (out.new.items ≡ out.old.items ++ stands form number front.now) }
 {
     put_word(out, Text("may stand there:"))?;
-    put_words(out, alloc, form, number, front, HEADS)?;
-    put_words(out, alloc, form, number, front, VERBS)?;
-    put_words(out, alloc, form, number, front, VALUES)?;
+    put_plain(out, alloc, form, number, front)?;
     put_numbers(out, alloc, form, number, front)?;
     put_end(out)?;
     Ok(())
