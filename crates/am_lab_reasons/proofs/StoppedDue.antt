@@ -22,6 +22,7 @@ use Rattle.am_office_entries.specs.declared.Entry.{Entry}
 use Rattle.am_office_entries.specs.declared.Event.{Event}
 use Rattle.am_scenario.specs.Laws.{Spells}
 use Rattle.am_scenario_types.specs.declared.parts.Form.{Form}
+use Rattle.am_scenario_types.specs.declared.parts.Form.TheVariants as Forms
 use Rattle.am_scenario_types.specs.declared.faults.ScenarioFault.{ScenarioFault}
 use Rattle.am_scenario_types.specs.Lists.{ScenarioLists}
 use Rattle.am_scenario_types.specs.Lawful.{IsLawful}
@@ -31,7 +32,8 @@ use Rattle.am_model_scripts.specs.Layout.{layout_of}
 use Rattle.am_lab_reasons.specs.Journal.Lines as Made
 use Rattle.am_lab_reasons.specs.Journal.Lines.{AreLines}
 use Rattle.am_lab_reasons.proofs.Again.{are_lines}
-use Rattle.am_lab_reasons.specs.Due.Due.{HasEvent, IsBehindJournal, WasDue, WasDueOf, StandsAt}
+use Rattle.am_lab_reasons.specs.Due.Choices.{choices}
+use Rattle.am_lab_reasons.specs.Due.Due.{HasEvent, IsBehindJournal, MightCome, WasDue, WasDueOf, StandsAt}
 
 -- ---- a line's number
 
@@ -136,6 +138,14 @@ pub text_told : {E : Type 0} (r : Result (Vec ℕ) E) (text : List ℕ) (Q : Lis
     IfOk r (λ (out : Vec ℕ). out.items ≡ text) → IfOk r (λ (out : Vec ℕ). Q out.items)
 text_told (Ok out) text Q f h = f out.items h
 text_told (Err e) text Q f h = tt
+
+-- the events that might come, where a run stands behind the journal of the lines
+pub might_told : {E : Type 0} (r : Result (Vec ℕ) E) (s t : ScenarioLists) (bytes : List ℕ) (number : ℕ) (journal : List Entry) (left : List (List ℕ)) →
+    StandsAt Forms.Run s bytes number journal left → t ≡ s → IfOk r (λ (out : Vec ℕ). out.items ≡ choices Forms.Run t journal) →
+    IfOk r (λ (out : Vec ℕ). MightCome Forms.Run s bytes number out.items)
+might_told (Ok out) s t bytes number journal left at same is =
+    record { journal = journal; left = left; at = at; text = is ∙ ap (λ (u : ScenarioLists). choices Forms.Run u journal) same }
+might_told (Err e) s t bytes number journal left at same is = tt
 
 -- ---- the parts of a text
 

@@ -49,10 +49,14 @@ abbrev pub number_words : Bool → Option (List ℕ) → Option (List ℕ) → L
 number_words true least greatest = codes " declared numbers"
 number_words false least greatest = range_words least greatest
 
+-- the words that are no numbers and may stand there
+abbrev pub plain_words : Form → ℕ → List ℕ → List ℕ
+plain_words form number front =
+    flat_map (word_if form number front) heads ++ flat_map (word_if form number front) verbs ++ flat_map (word_if form number front) values
+
 -- WHICH WORDS might stand behind the text of a line
 unfoldable pub stands : Form → ℕ → List ℕ → List ℕ
 stands form number front =
-    codes "may stand there:" ++ flat_map (word_if form number front) heads ++ flat_map (word_if form number front) verbs
-    ++ flat_map (word_if form number front) values
+    codes "may stand there:" ++ plain_words form number front
     ++ number_words (is_undeclared (fault_in form number (front ++ codes "256"))) (first_standing form number front limits)
     (first_standing form number front limits_down) ++ codes "\n"

@@ -8,7 +8,7 @@ ghost use Rattle.am_model_scripts.specs.Links.{nodes_of};
 ghost use Rattle.std.specs.List.{flat_map, AllByRecursion};
 ghost use Rattle.std.specs.Prelude.{◌≡◌, ◌<◌, ◌++◌, OnOk, true};
 
-use crate::due::texts::{put_next, put_next_if};
+use crate::due::texts::put_next;
 use am_cluster_drainer::Drainable;
 use am_cluster_scripted::ScriptedCluster;
 use am_names::{NoMemory, NodeId};

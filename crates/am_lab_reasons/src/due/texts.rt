@@ -1,7 +1,7 @@
 //! The lines that tell what was due.
 
 ghost use Rattle.am_lab_reasons.specs.Due.Texts.{due_entry, due_line, next_line};
-ghost use Rattle.am_lab_reasons.specs.Due.Choices.{next_if, step_line};
+ghost use Rattle.am_lab_reasons.specs.Due.Choices.{step_line};
 ghost use Rattle.std.specs.Prelude.{◌≡◌, ◌++◌, OnOk, Some, option_map};
 
 use am_names::NoMemory;
@@ -23,16 +23,6 @@ pub(crate) fn put_next(out: &mut Vec<u8>, event: Event) -> Result<(), NoMemory>
         outcome: Outcome::Silent,
     };
     entry_line(&entry, out)
-}
-
-/// Appends an event that might have come, if there is one.
-pub(crate) fn put_next_if(out: &mut Vec<u8>, event: Option<Event>) -> Result<(), NoMemory>
-    ensures { OnOk result (out.new.items ≡ out.old.items ++ next_if event) }
-{
-    match event {
-        Some(event) => put_next(out, event),
-        None => Ok(()),
-    }
 }
 
 /// Appends the step that is next, or that none is.

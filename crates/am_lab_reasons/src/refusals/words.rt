@@ -1,7 +1,7 @@
 //! Which words might stand at a place of a line.
 
 ghost use Rattle.am_lab_reasons.specs.Refusals.Faults as rules;
-ghost use Rattle.am_lab_reasons.specs.Refusals.Stands.{first_standing, heads, is_undeclared, limits, limits_down, number_words, range_words, stands, values, verbs, word_if};
+ghost use Rattle.am_lab_reasons.specs.Refusals.Stands.{first_standing, heads, is_undeclared, limits, limits_down, number_words, plain_words, range_words, stands, values, verbs, word_if};
 ghost use Rattle.am_lexer.specs.Text.{words_of};
 ghost use Rattle.std.specs.List.{flat_map};
 ghost use Rattle.std.specs.Prelude.{◌≡◌, ◌++◌, IfOk, OnOk, codes, option_map};
@@ -231,6 +231,22 @@ fn put_values(
     put_words(out, alloc, form, number, front, VALUES)
 }
 
+// Appends which words that are no numbers may stand there.
+#[tactic(auto, using(std::proofs::Common::append_assoc))]
+fn put_plain(
+    out: &mut Vec<u8>,
+    alloc: Global,
+    form: Form,
+    number: u32,
+    front: &[u8],
+) -> Result<(), NoMemory>
+    ensures { OnOk result (out.new.items ≡ out.old.items ++ plain_words form number front.now) }
+{
+    put_heads(out, alloc, form, number, front)?;
+    put_verbs(out, alloc, form, number, front)?;
+    put_values(out, alloc, form, number, front)
+}
+
 /// Appends which words might stand behind the text of a line.
 #[tactic(auto, using(std::proofs::Common::append_assoc), unfolding(crate::specs::Refusals::Stands::stands))]
 pub(crate) fn put_stands(
@@ -243,9 +259,7 @@ pub(crate) fn put_stands(
     ensures { OnOk result (out.new.items ≡ out.old.items ++ stands form number front.now) }
 {
     put_word(out, Text("may stand there:"))?;
-    put_heads(out, alloc, form, number, front)?;
-    put_verbs(out, alloc, form, number, front)?;
-    put_values(out, alloc, form, number, front)?;
+    put_plain(out, alloc, form, number, front)?;
     put_numbers(out, alloc, form, number, front)?;
     put_end(out)?;
     Ok(())
