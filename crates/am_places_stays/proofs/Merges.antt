@@ -1,5 +1,7 @@
--- Merges to which more is added.
-use Rattle.std.proofs.Common.{inl, inr, List, [], ◌∷◌, ◌++◌, refl, ap, ⊎_elim}
+-- Merges to which more is added, and what merges keep.
+use Rattle.std.proofs.Common.{◌≡◌, inl, inr, List, [], ◌∷◌, ◌++◌, refl, ap, subst, sym, ⊎_elim}
+use Rattle.std.specs.List.Sorted.{IsPermutation}
+use Rattle.std.proofs.lemmas.List.Sorted.{IsPermutation-cons, IsPermutation-middle, IsPermutation-refl, IsPermutation-trans}
 use Rattle.am_places_stays.specs.Stays.{IsMerge}
 
 module _ {X : Type 0} where
@@ -25,4 +27,20 @@ module _ {X : Type 0} where
   right_behind xs ys (z ∷ zs) ws h = ⊎_elim
       (λ l. inl (l.0, l.1, right_behind l.0 ys zs ws l.2))
       (λ r. inr (r.0 ++ ws, ap (λ q. q ++ ws) r.1, right_behind xs r.0 zs ws r.2))
+      h
+
+  from_left : (xs ys zs rest : List X) (z : X) → xs ≡ z ∷ rest → IsPermutation (rest ++ ys) zs → IsPermutation (xs ++ ys) (z ∷ zs)
+  from_left xs ys zs rest z is h = subst (λ (first : List X). IsPermutation (first ++ ys) (z ∷ zs)) (sym is) (IsPermutation-cons z (rest ++ ys) zs h)
+
+  from_right : (xs ys zs rest : List X) (z : X) → ys ≡ z ∷ rest → IsPermutation (xs ++ rest) zs → IsPermutation (xs ++ ys) (z ∷ zs)
+  from_right xs ys zs rest z is h =
+      subst (λ (second : List X). IsPermutation (xs ++ second) (z ∷ zs)) (sym is)
+      (IsPermutation-trans (xs ++ z ∷ rest) (z ∷ (xs ++ rest)) (z ∷ zs) (IsPermutation-middle xs z rest) (IsPermutation-cons z (xs ++ rest) zs h))
+
+  -- A merge is both lists in another order: so std's lemmas on permutations tell its length, its sums, what it contains and what all of it is.
+  pub merge_is_permutation : (xs ys zs : List X) → IsMerge xs ys zs → IsPermutation (xs ++ ys) zs
+  merge_is_permutation xs ys [] h = coe 1 0 (i. IsPermutation (h.0 i ++ h.1 i) []) (IsPermutation-refl [])
+  merge_is_permutation xs ys (z ∷ zs) h = ⊎_elim
+      (λ l. from_left xs ys zs l.0 z l.1 (merge_is_permutation l.0 ys zs l.2))
+      (λ r. from_right xs ys zs r.0 z r.1 (merge_is_permutation xs r.0 zs r.2))
       h
