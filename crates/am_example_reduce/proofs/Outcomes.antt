@@ -18,11 +18,11 @@ use Rattle.am_office_entries.specs.declared.Entry.{Entry}
 use Rattle.am_scenario_plan.specs.declared.plan.LinkFault.TheVariants.{Repeat}
 use Rattle.am_scenario_plan.specs.declared.plan.PlanLine.{PlanLine}
 use Rattle.am_scenario_types.specs.Lists.{ScenarioLists}
-use Rattle.am_library.specs.declared.tally.Tally.{Tally}
+use Rattle.am_library.specs.declared.round_sum.RoundSum.{RoundSum}
 use Rattle.am_library.specs.Ends.{is_back, is_lost, words_asked, words_fated, words_of, words_refused, words_run}
 use Rattle.am_library.specs.Laws.{AllRunWhereTheyLead, EachRequestHasItsEnd, NothingIsUnknown, SumsAreOfRuns, WhatRanWasAskedFor, first_of, first_word}
 use Rattle.am_library.specs.Runs.{IsRun}
-use Rattle.am_library.specs.Tallies.{IsBegun, IsOutcome, is_whole, left_by}
+use Rattle.am_library.specs.RoundSums.{IsBegun, IsOutcome, is_whole, left_by}
 use Rattle.am_library.specs.Views.{is_to, requests_run, runs_at, sum_at}
 use Rattle.am_library.proofs.Weights.{sum_map}
 use Rattle.am_example_reduce.specs.Rounds.{Asks, SendsSum, end_of, root}
@@ -50,7 +50,7 @@ unknown_more {plan} runs run =
     ∙ ap (λ (l : List Words). unknown_by runs ++ l)
     (flat_map-cons (λ (r : Run plan). words_fated is_lost r.journal) run [] ∙ append-nil (words_fated is_lost run.journal))
 
-round_more : (plan : List PlanLine) (numbers : List Words) (before now : Tally) (s : ScenarioLists) (journal : List Entry) → EachRequestHasItsEnd →
+round_more : (plan : List PlanLine) (numbers : List Words) (before now : RoundSum) (s : ScenarioLists) (journal : List Entry) → EachRequestHasItsEnd →
     AllRunWhereTheyLead → SumsAreOfRuns → NothingIsUnknown → IsRun s journal → Asks plan before.left.items s → IsOutcome before journal root now →
     (so_far : Sums plan numbers before) → (sums : Sums plan numbers now) × (length sums.runs ≡ length so_far.runs + 1)
 round_more plan numbers before now s journal ends lead sums unknown is_run asks outcome so_far = (
@@ -93,7 +93,7 @@ round_more plan numbers before now s journal ends lead sums unknown is_run asks 
     there : runs_at journal root ≡ requests_run journal
     there = lead s journal root is_run asks.lead
 
-pub after_more : (plan : List PlanLine) (numbers : List Words) (rounds : ℕ) (before now : Tally) (s : ScenarioLists) (journal : List Entry) →
+pub after_more : (plan : List PlanLine) (numbers : List Words) (rounds : ℕ) (before now : RoundSum) (s : ScenarioLists) (journal : List Entry) →
     EachRequestHasItsEnd → AllRunWhereTheyLead → SumsAreOfRuns → NothingIsUnknown → IsRun s journal → Asks plan before.left.items s →
     IsOutcome before journal root now → before.left.items ≢ [] → IsAfter plan numbers rounds before → IsAfter plan numbers (rounds + 1) now
 after_more plan numbers rounds before now s journal ends lead sums unknown is_run asks outcome some so_far =
@@ -103,12 +103,12 @@ after_more plan numbers rounds before now s journal ends lead sums unknown is_ru
     (next.0, inl (next.1 ∙ ap (λ (n : ℕ). n + 1) many))
 
 -- nothing is left, so no round is made
-pub after_none : (plan : List PlanLine) (numbers : List Words) (rounds : ℕ) (tally : Tally) → tally.left.items ≡ [] → IsAfter plan numbers rounds tally →
-    IsAfter plan numbers (rounds + 1) tally
-after_none plan numbers rounds tally none so_far = (so_far.0, inr none)
+pub after_none : (plan : List PlanLine) (numbers : List Words) (rounds : ℕ) (summed : RoundSum) → summed.left.items ≡ [] → IsAfter plan numbers rounds summed →
+    IsAfter plan numbers (rounds + 1) summed
+after_none plan numbers rounds summed none so_far = (so_far.0, inr none)
 
-pub round_none : (plan : List PlanLine) (numbers : List Words) (tally : Tally) → IsBegun numbers tally → IsAfter plan numbers 0 tally
-round_none plan numbers tally begun = (
+pub round_none : (plan : List PlanLine) (numbers : List Words) (summed : RoundSum) → IsBegun numbers summed → IsAfter plan numbers 0 summed
+round_none plan numbers summed begun = (
   record {
     runs = [];
     left' = begun.left';
@@ -149,15 +149,15 @@ none_open (w ∷ left) unknown test =
     absurd (let some : length (w ∷ left) ≡ 0 = eqb-true (length (w ∷ left)) 0 (and_parts (length (w ∷ left) == 0) (length unknown == 0) test).0 in
     omega (arith, some))
 
-pub is_open : (tally : Tally) → is_whole tally ≡ false → 0 < length tally.left.items + length tally.unknown.items
-is_open tally test = some_open tally.left.items tally.unknown.items test
+pub is_open : (summed : RoundSum) → is_whole summed ≡ false → 0 < length summed.left.items + length summed.unknown.items
+is_open summed test = some_open summed.left.items summed.unknown.items test
 
-pub whole : (plan : List PlanLine) (numbers : List Words) (tally : Tally) → Sums plan numbers tally → is_whole tally ≡ true →
-    (tally.sum ≡ sum_by first_of numbers % 2 ^ 64) × SumsAllBut plan numbers tally.sum [] []
-whole plan numbers tally sums test =
-    let none = none_open tally.left.items tally.unknown.items test in
-    let all : SumsAllBut plan numbers tally.sum [] [] =
-    coe 0 1 (i. SumsAllBut plan numbers tally.sum (none.0 i) (none.1 i)) sums in
+pub whole : (plan : List PlanLine) (numbers : List Words) (summed : RoundSum) → Sums plan numbers summed → is_whole summed ≡ true →
+    (summed.sum ≡ sum_by first_of numbers % 2 ^ 64) × SumsAllBut plan numbers summed.sum [] []
+whole plan numbers summed sums test =
+    let none = none_open summed.left.items summed.unknown.items test in
+    let all : SumsAllBut plan numbers summed.sum [] [] =
+    coe 0 1 (i. SumsAllBut plan numbers summed.sum (none.0 i) (none.1 i)) sums in
     let total : weight_summed first_of all.runs ≡ sum_by first_of numbers = omega (arith, all.each first_of) in
     (all.summed ∙ ap (λ (n : ℕ). n % 2 ^ 64) total, all)
 

@@ -8,11 +8,11 @@ use Rattle.am_office_entries.specs.declared.Entry.{Entry}
 use Rattle.am_scenario_plan.specs.declared.plan.LinkFault.TheVariants.{Repeat}
 use Rattle.am_scenario_plan.specs.declared.plan.PlanLine.{PlanLine}
 use Rattle.am_scenario_types.specs.Lists.{ScenarioLists}
-use Rattle.am_library.specs.declared.tally.Tally.{Tally}
+use Rattle.am_library.specs.declared.round_sum.RoundSum.{RoundSum}
 use Rattle.am_library.specs.Ends.{is_lost, words_asked, words_fated}
 use Rattle.am_library.specs.Laws.{first_of, first_word}
 use Rattle.am_library.specs.Runs.{IsRun}
-use Rattle.am_library.specs.Tallies.{left_by}
+use Rattle.am_library.specs.RoundSums.{left_by}
 use Rattle.am_library.specs.Views.{runs_at, sum_at}
 use Rattle.am_example_reduce.specs.declared.reduce.Reduced.{Reduced}
 use Rattle.am_example_reduce.specs.declared.reduce.Reduced.TheVariants as Answer
@@ -53,9 +53,9 @@ pub record SumsAllBut (plan : List PlanLine) (numbers : List Words) (sum : ℕ) 
   pub at_root : sum ≡ sum_by (λ (run : Run plan). sum_at run.journal root) runs % 2 ^ 64
   pub known : All (λ (line : PlanLine). line.fault ≡ Repeat) plan → unknown ≡ []
 
--- the same of a tally
-abbrev pub Sums : List PlanLine → List Words → Tally → Type 0
-Sums plan numbers tally = SumsAllBut plan numbers tally.sum tally.left.items tally.unknown.items
+-- the same of a summed
+abbrev pub Sums : List PlanLine → List Words → RoundSum → Type 0
+Sums plan numbers summed = SumsAllBut plan numbers summed.sum summed.left.items summed.unknown.items
 
 -- the number that a node heard: the first word of the first request that ran at its endpoint
 abbrev pub heard_by : List Entry → ℕ → Option ℕ
@@ -68,13 +68,13 @@ pub record AreNotes (plan : List PlanLine) (nodes sum : ℕ) (notes : List (Opti
   pub same : All (λ (note : Option ℕ). IfSome note (λ (number : ℕ). number ≡ sum)) notes
 
 -- so many rounds came to this, or nothing was left before
-abbrev pub IsAfter : List PlanLine → List Words → ℕ → Tally → Type 0
-IsAfter plan numbers rounds tally = (sums : Sums plan numbers tally) × ((length sums.runs ≡ rounds) ⊎ (tally.left.items ≡ []))
+abbrev pub IsAfter : List PlanLine → List Words → ℕ → RoundSum → Type 0
+IsAfter plan numbers rounds summed = (sums : Sums plan numbers summed) × ((length sums.runs ≡ rounds) ⊎ (summed.left.items ≡ []))
 
 -- THE ANSWER. Whole: the sum of all numbers modulo 2^64, and what the nodes heard. Open: that of the numbers but some, which are listed; what
 -- is left was asked for in four rounds.
 abbrev pub IsReduced : List PlanLine → ℕ → List Words → Reduced → Type 0
 IsReduced plan nodes numbers (Answer.Whole sum notes) =
     (sum ≡ sum_by first_of numbers % 2 ^ 64) × SumsAllBut plan numbers sum [] [] × AreNotes plan nodes sum notes.items
-IsReduced plan nodes numbers (Answer.Open tally) =
-    IsAfter plan numbers 4 tally × (0 < length tally.left.items + length tally.unknown.items)
+IsReduced plan nodes numbers (Answer.Open summed) =
+    IsAfter plan numbers 4 summed × (0 < length summed.left.items + length summed.unknown.items)

@@ -37,12 +37,12 @@ fn print(rt: &impl Print, reduced: &Reduced) -> Result<()> {
                 }
             }
         }
-        Reduced::Open(tally) => {
-            println!(rt; "open {}", tally.sum)?;
-            for words in &tally.left {
+        Reduced::Open(summed) => {
+            println!(rt; "open {}", summed.sum)?;
+            for words in &summed.left {
                 println!(rt; "left {} of node {}", words.a, words.b)?;
             }
-            for words in &tally.unknown {
+            for words in &summed.unknown {
                 println!(rt; "unknown {} of node {}", words.a, words.b)?;
             }
         }

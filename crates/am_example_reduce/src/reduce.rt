@@ -11,7 +11,7 @@ ghost use Rattle.am_example_reduce.specs.Sums.{IsReduced, heard_by};
 
 use am_library::calls::{handler, map, poll, request, two_words};
 use am_library::{
-    Draft, DraftFault, Finished, RoundFault, Runner, Setting, Tally, first_word_at, laws,
+    Draft, DraftFault, Finished, RoundFault, RoundSum, Runner, Setting, first_word_at, laws,
 };
 use am_names::{EndpointId, NoMemory, NodeId, Tag, Words};
 use am_office_entries::HandlerKind;
@@ -29,7 +29,7 @@ pub enum Reduced {
     /// Of all numbers, and what each node heard, in the order of the nodes.
     Whole { sum: u64, notes: Vec<Option<u64>> },
     /// Of all numbers but those that are left or unknown, of which there is one at least.
-    Open(Tally),
+    Open(RoundSum),
 }
 
 // The nodes with their endpoints and threads, under a plan.
@@ -120,20 +120,20 @@ pub fn reduce<R: Runner, T: Threads + Sync>(
     laws::sums_are_of_runs();
     laws::nothing_is_unknown();
     laws::what_ran_was_asked_for();
-    let mut tally = Tally::begin(alloc, numbers)?;
+    let mut summed = RoundSum::begin(alloc, numbers)?;
     for _round in 0..4u8 {
-        if !tally.left.is_empty() {
+        if !summed.left.is_empty() {
             let mut draft = planned(alloc, nodes, plan)?;
-            ask(&mut draft, &tally.left)?;
+            ask(&mut draft, &summed.left)?;
             let finished = draft.run(runner, rt, alloc)?;
             let journal = finished.journal.logged(alloc)?;
-            tally = tally.after(alloc, &journal, ROOT)?;
+            summed = summed.after(alloc, &journal, ROOT)?;
         }
     }
-    if !tally.is_whole() {
-        return Ok(Reduced::Open(tally));
+    if !summed.is_whole() {
+        return Ok(Reduced::Open(summed));
     }
-    let sum = tally.sum;
+    let sum = summed.sum;
     let mut draft = planned(alloc, nodes, plan)?;
     tell(&mut draft, nodes, sum)?;
     let finished = draft.run(runner, rt, alloc)?;

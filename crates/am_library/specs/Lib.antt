@@ -4,4 +4,4 @@ pub mod Ends
 pub mod Laws
 pub mod Drafts
 pub mod Accounts
-pub mod Tallies
+pub mod RoundSums

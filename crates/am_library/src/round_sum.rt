@@ -1,7 +1,7 @@
 //! A sum at one endpoint over rounds: what was refused or came back never ran, and is asked for again.
 
 ghost use Rattle.std.specs.Prelude.{◌≡◌, IfOk};
-ghost use Rattle.am_library.specs.Tallies.{IsBegun, IsOutcome, is_whole};
+ghost use Rattle.am_library.specs.RoundSums.{IsBegun, IsOutcome, is_whole};
 
 use crate::account::Account;
 use crate::endings::Ending;
@@ -12,7 +12,7 @@ use std::alloc::Global;
 
 /// What rounds summed so far at an endpoint, and what they did not.
 #[derive(Drop)]
-pub struct Tally {
+pub struct RoundSum {
     /// The sum of the endpoint's sums, modulo 2^64.
     pub sum: u64,
     /// The words of what never ran: whenever it was asked for, it was refused or came back.
@@ -21,13 +21,13 @@ pub struct Tally {
     pub unknown: Vec<Words>,
 }
 
-impl Tally {
+impl RoundSum {
     /// Before the first round: nothing is summed, and all is left. `NoMemory` comes where there is none for it.
-    pub fn begin(alloc: Global, words: &[Words]) -> Result<Tally, NoMemory>
+    pub fn begin(alloc: Global, words: &[Words]) -> Result<RoundSum, NoMemory>
         ensures { IfOk result (IsBegun words.now) }
     {
         let left = Vec::from_slice(alloc, words)?;
-        Ok(Tally {
+        Ok(RoundSum {
             sum: 0,
             left,
             unknown: Vec::new(alloc),
@@ -47,7 +47,7 @@ impl Tally {
         alloc: Global,
         journal: &LoggedJournal,
         end: EndpointId,
-    ) -> Result<Tally, NoMemory>
+    ) -> Result<RoundSum, NoMemory>
         ensures { IfOk result (IsOutcome self.now journal.now end) }
     {
         let sum = self.sum.wrapping_add(sum_at(journal, end));
@@ -56,6 +56,6 @@ impl Tally {
         account.add_ended(journal, Ending::Unknown, &mut unknown)?;
         let mut left = account.words_ended(alloc, journal, Ending::Refused)?;
         account.add_ended(journal, Ending::Returned, &mut left)?;
-        Ok(Tally { sum, left, unknown })
+        Ok(RoundSum { sum, left, unknown })
     }
 }
