@@ -5,6 +5,7 @@ ghost use Rattle.am_wire.specs.Links.{IsLink, SameLink};
 use am_names::{AnswerPacket, NodeId, Packet, Verdict};
 use am_scenario_plan::{LinkFault, PlanLine};
 use am_wire::{LinkIn, LinkOut, make_link};
+use am_wire_plain::{close_plain, make_plain};
 use std::alloc::Global;
 use std::process::Abort;
 use std::thread;
@@ -115,4 +116,14 @@ fn from_one_thread_to_another(rt: HostRuntime) {
     let (offered, _) = thread::join(&rt, move || sends(out), || true);
     assert!(rt; offered);
     assert!(rt; gives(&mut inn, &RELEASED));
+}
+
+// A relay without faults, of items that bear no stamp.
+#[test]
+fn what_comes_is_what_was_sent(rt: HostRuntime) {
+    let (mut out, inn) = make_plain::<u8>(rt.alloc()).expect(&rt, "a relay");
+    out.offer(7).expect(&rt, "an item");
+    out.pump();
+    let all = close_plain(rt.alloc(), out, inn).expect(&rt, "a record");
+    assert!(rt; all.left.as_slice() == [7].as_slice());
 }
