@@ -1,13 +1,15 @@
 -- What two seats added, once both are done.
-use Rattle.std.proofs.Common.{◌≡◌, ◌≢◌, inl, inr, ℕ, zero, suc, ◌<◌, ◌≤◌, Bool, true, false, List, [], ◌∷◌, ◌++◌, length, get_or, sym, refl, ap, ◌∙◌, subst}
-use Rattle.std.proofs.Common.{arith, append-nil, eq-eqb, ne_eqb, true≢false}
+use Rattle.std.proofs.Common.{◌≡◌, ◌≢◌, inl, inr, ℕ, zero, suc, ◌+◌, ◌<◌, ◌≤◌, Bool, true, false, List, [], ◌∷◌, ◌++◌, length, get_or, sym, refl, ap, ◌∙◌, subst}
+use Rattle.std.proofs.Common.{arith, append-nil, eq-eqb, ne_eqb}
 use Rattle.std.specs.Prelude.{Option, if◌then◌else◌}
-use Rattle.am_places.specs.Rule.{Begins, Comes, HasGathered, both_at, both_known, gathered, has, joined, known_at, nothing, of, tenure}
+use Rattle.atomic_table.specs.Seated.{TableId}
+use Rattle.am_places.specs.Rule.{Begins, Comes, HasGathered, both_at, both_known, gathered, has, joined, known_at, nothing, of, pass_in, tenure, with_known}
 use Rattle.am_places.specs.declared.board.Known.{Known}
 use Rattle.am_places.specs.declared.board.Pass.{Pass}
 use Rattle.am_places.specs.declared.board.Tenure.{Tenure}
 use Rattle.am_places.proofs.Ends.{begins_longer, of-append}
-use Rattle.am_places_stays.specs.Stays.{AllBy, BeganWith, IsMerge, added_at}
+use Rattle.am_places_stays.specs.Stays.{AllBy, HasBoth, IsMerge, IsWaiting, Token, added_at}
+use Rattle.am_places_stays.proofs.Staying.{elsewhere_same}
 
 flat : {I : Type 0} → List (List I) → List I
 flat [] = []
@@ -80,33 +82,48 @@ one_or_two (suc zero) pos few = refl
 one_or_two (suc (suc zero)) pos few = refl
 one_or_two (suc (suc (suc m))) pos few = absurd (omega (arith, few))
 
-module _ {I T : Type 0} (v w z : Pass I T) (is : z ≡ gathered v w) (two : v.keeps ≡ 2 ∷ []) (one : w.keeps ≡ 1 ∷ []) (seats : v.seats ≡ 2) where
-  marks : z.keeps ≡ 2 ∷ 1 ∷ []
-  marks = ap (λ (q : Pass I T). q.keeps) is ∙ (λ i. two i ++ one i)
+-- the pass z has gathered the passes v and w of two seats, and knows what both knew of each book from this position on
+pub record IsOfBoth {I T : Type 0} (v w z : Pass I T) (from : ℕ) : Type 0 where
+  pub marks : z.keeps ≡ 2 ∷ 1 ∷ []
+  pub all_seats : z.seats ≡ 2
+  pub known : (k : ℕ) → from ≤ k → k < length v.known → known_at k z ≡ both_at (known_at k v) (known_at k w)
 
-  all_seats : z.seats ≡ 2
-  all_seats = ap (λ (q : Pass I T). q.seats) is ∙ seats
+pub both_passes : {I T : Type 0} (v w z : Pass I T) → z ≡ gathered v w → v.keeps ≡ 2 ∷ [] → w.keeps ≡ 1 ∷ [] → v.seats ≡ 2 → length v.known ≡ length w.known →
+    IsOfBoth v w z 0
+both_passes {I} {T} v w z is two one seats wide = record {
+  marks = ap (λ (q : Pass I T). q.keeps) is ∙ (λ i. two i ++ one i);
+  all_seats = ap (λ (q : Pass I T). q.seats) is ∙ seats;
+  known = λ k _ near. ap (known_at k) is ∙ known_both k v.known w.known wide near;
+}
 
+pub both_but_one : {I T : Type 0} (v w z u : Pass I T) (at : ℕ) (x : Known I) → u ≡ with_known at x z → IsOfBoth v w z at → IsOfBoth v w u (at + 1)
+both_but_one {I} {T} v w z u at x is both = record {
+  marks = ap (λ (q : Pass I T). q.keeps) is ∙ both.marks;
+  all_seats = ap (λ (q : Pass I T). q.seats) is ∙ both.all_seats;
+  known = λ k behind near. elsewhere_same at x z u is k (λ e. omega (arith, behind, e)) ∙ both.known k (omega (arith, behind)) near;
+}
+
+module _ {I T : Type 0} (v w z : Pass I T) (from : ℕ) (both : IsOfBoth v w z from) where
   pub both_gathered : HasGathered z
-  both_gathered m pos few = ap (has m) marks ∙ one_or_two m pos (subst (λ (n : ℕ). m ≤ n) all_seats few)
+  both_gathered m pos few = ap (has m) both.marks ∙ one_or_two m pos (subst (λ (n : ℕ). m ≤ n) both.all_seats few)
 
-  module _ (at : ℕ) (near : at < length v.known) (wide : length v.known ≡ length w.known) where
+  module _ (at : ℕ) (behind : from ≤ at) (near : at < length v.known) where
     known_of_both : known_at at z ≡ both_at (known_at at v) (known_at at w)
-    known_of_both = ap (known_at at) is ∙ known_both at v.known w.known wide near
+    known_of_both = both.known at behind near
 
-    pub still_outside : (known_at at v).inside ≡ false → (known_at at z).inside ≡ true → ⊥
-    still_outside out inn = true≢false (sym inn ∙ ap (λ (x : Known I). x.inside) known_of_both ∙ out)
+    pub still_outside : (known_at at v).inside ≡ false → (known_at at z).inside ≡ false
+    still_outside out = ap (λ (x : Known I). x.inside) known_of_both ∙ out
 
     -- the tenures of a mark that one of the two has
     theirs : (log : List (Tenure I)) (m : ℕ) → has m (2 ∷ 1 ∷ []) ≡ true → ((n : ℕ) → has n z.keeps ≡ true → of n log ≡ of n (known_at at z).made) →
         of m log ≡ of m (known_at at v).made ++ of m (known_at at w).made
     theirs log m kept own =
-        own m (ap (has m) marks ∙ kept) ∙ ap (λ (x : Known I). of m x.made) known_of_both ∙ of-append m (known_at at v).made (known_at at w).made
+        own m (ap (has m) both.marks ∙ kept) ∙ ap (λ (x : Known I). of m x.made) known_of_both ∙ of-append m (known_at at v).made (known_at at w).made
 
     module _ {B : Type 0} (items : B → List I) (birth : B → T) (stands : B → ℕ) (moves : I → Bool) where
       pub both_added : (hand : List (ℕ × Option B)) (log : List (Tenure I)) (b : B) → AllBy 2 (known_at at v).made → AllBy 1 (known_at at w).made →
           Comes items birth stands moves at (z, hand) log b
-          → (xs : List I) → BeganWith at xs v → (ys : List I) × (items b ≡ xs ++ ys) × IsMerge (added_at at w) (added_at at v) ys
+          → HasBoth at v w (items b)
       both_added hand log b mine others comes xs began = (
         joined more,
         sym comes.stands_for
@@ -131,7 +148,7 @@ module _ {I T : Type 0} (v w z : Pass I T) (is : z ≡ gathered v w) (two : v.ke
               ∙ comes.opening in omega (arith, one_there))
 
           far : (m : ℕ) → 2 < m → of m more ≡ []
-          far m lt = rest_none m (tenure 0 xs) more (ap (of m) (sym whole) ∙ comes.far m (subst (λ (n : ℕ). n < m) (sym all_seats) lt))
+          far m lt = rest_none m (tenure 0 xs) more (ap (of m) (sym whole) ∙ comes.far m (subst (λ (n : ℕ). n < m) (sym both.all_seats) lt))
 
           first : flat (of 1 more) ≡ added_at at w
           first =
@@ -145,3 +162,25 @@ module _ {I T : Type 0} (v w z : Pass I T) (is : z ≡ gathered v w) (two : v.ke
               ∙ ap (λ (l : List (List I)). of 2 (known_at at v).made ++ l) (none_other 2 1 (known_at at w).made others (λ e. omega (arith, e)))
               ∙ append-nil (of 2 (known_at at v).made))
               ∙ all_own 2 (known_at at v).made mine
+
+-- of two seats of one table that wait
+module _ {B I T : Type 0} (id : TableId) (keeper other : Token B I T) (k : IsWaiting id keeper) (o : IsWaiting id other)
+    (marks : ((pass_in keeper).mark ≡ 2) × ((pass_in keeper).seats ≡ 2) × ((pass_in other).mark ≡ 1)) where
+  abbrev v : Pass I T
+  v = pass_in keeper
+
+  abbrev w : Pass I T
+  w = pass_in other
+
+  pub both_wait : (z : Pass I T) → length v.known ≡ keeper.table_id.slots → length w.known ≡ other.table_id.slots → z ≡ gathered v w → IsOfBoth v w z 0
+  both_wait z many those is =
+      both_passes v w z is (k.keeps ∙ ap (λ (m : ℕ). m ∷ []) marks.0) (o.keeps ∙ ap (λ (m : ℕ). m ∷ []) marks.2) marks.1
+      (many ∙ ap (λ (i : TableId). i.slots) (k.table ∙ sym o.table) ∙ sym those)
+
+  pub both_come : (items : B → List I) (birth : B → T) (stands : B → ℕ) (moves : I → Bool) (z : Pass I T) (from at : ℕ) → IsOfBoth v w z from → from ≤ at →
+      at < length v.known → (hand : List (ℕ × Option B)) (log : List (Tenure I)) (b : B) → Comes items birth stands moves at (z, hand) log b → HasBoth at v w (items b)
+  both_come items birth stands moves z from at both behind near hand log b comes =
+      both_added v w z from both at behind near items birth stands moves hand log b
+      (subst (λ (m : ℕ). AllBy m (known_at at v).made) marks.0 (k.own at))
+      (subst (λ (m : ℕ). AllBy m (known_at at w).made) marks.2 (o.own at))
+      comes

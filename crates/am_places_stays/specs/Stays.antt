@@ -1,5 +1,5 @@
 -- What is known of a seat between two stays, and within one.
-use Rattle.std.specs.Prelude.{◌≡◌, ◌≢◌, ◌⊎◌, ℕ, ◌+◌, ◌<◌, Bool, true, false, Option, None, List, [], ◌∷◌, drop, length}
+use Rattle.std.specs.Prelude.{◌≡◌, ◌≢◌, ◌⊎◌, ℕ, ◌+◌, ◌<◌, Bool, true, false, Option, None, List, [], ◌∷◌, ◌++◌, drop, length}
 use mathlib.Core.Option.{some}
 use lib.ListN.{get_elem?}
 use Rattle.atomic_table.specs.declared.shared.Seat.{Seat}
@@ -78,3 +78,7 @@ module _ {B I T : Type 0} (items : B → List I) (birth : B → T) (stands : B �
 abbrev pub IsMerge : {X : Type 0} → List X → List X → List X → Type 0
 IsMerge xs ys [] = (xs ≡ []) × (ys ≡ [])
 IsMerge {X} xs ys (z ∷ zs) = ((rest : List X) × (xs ≡ z ∷ rest) × IsMerge rest ys zs) ⊎ ((rest : List X) × (ys ≡ z ∷ rest) × IsMerge xs rest zs)
+
+-- the list of the book at the position k is the one with which it began, and then what each of two seats added to it
+abbrev pub HasBoth : {I T : Type 0} → ℕ → Pass I T → Pass I T → List I → Type 0
+HasBoth {I} k v w list = (xs : List I) → BeganWith k xs v → (ys : List I) × (list ≡ xs ++ ys) × IsMerge (added_at k w) (added_at k v) ys

@@ -1,9 +1,29 @@
 //! The end of two seats.
-ghost use Rattle.std.specs.Prelude.{◌≡◌, ◌<◌, ◌++◌, List};
-ghost use Rattle.am_places.specs.Seats.{pass_of, table_in};
-ghost use Rattle.am_places_stays.specs.Stays.{BeganWith, IsMerge, IsWaiting, added_at};
+ghost use Rattle.std.specs.Prelude.{◌≡◌, ℕ, ◌<◌, false, List, IfOk, length};
+ghost use mathlib.Core.Option.{some};
+ghost use lib.ListN.{get_elem?};
+ghost use Rattle.am_places.specs.Rule.{Comes, HasGathered, inside_with, known_at, with_known};
+ghost use Rattle.am_places.specs.Seats.{SitsAt, StaysSeated, me_of, pass_of, table_in};
+ghost use Rattle.am_places_stays.specs.Stays.{HasBoth, IsWaiting};
 
+use am_names::NoMemory;
 use am_places::{Book, Places, Seat};
+use std::alloc::Global;
+
+/// The book at this position, where every other seat is gathered and nobody took it out before.
+fn take_gathered<B: Book + Send + Drop>(places: &Places<B>, keeper: &mut Seat<B>, at: usize) -> B
+    requires table { SitsAt places.now keeper.old }
+    requires at { at < places.now.count }
+    requires gathered { HasGathered (pass_of keeper.old) }
+    requires outside { (known_at at (pass_of keeper.old)).inside ≡ false }
+    ensures seat { StaysSeated keeper.old keeper.new }
+    ensures book { (log : List _) × Comes B.items B.birth B.stands B.moves at (me_of keeper.old) log result × (pass_of keeper.new ≡ with_known at (inside_with (B.stands result) log (known_at at (pass_of keeper.old))) (pass_of keeper.old)) }
+{
+    match places.take_out_at(keeper, at) {
+        Some(book) => book,
+        None => unreachable!(),
+    }
+}
 
 /// The book at this position, for the last time, where its places had two seats and both wait. Its list is the one with which
 /// it began, and then the items that each seat added, each once and in order.
@@ -22,11 +42,37 @@ pub fn end_two<B: Book + Send + Drop>(
     requires keeper { IsWaiting (table_in places.now) keeper.token }
     requires other { IsWaiting (table_in places.now) other.token }
     requires marks { ((pass_of keeper).mark ≡ 2) × ((pass_of keeper).seats ≡ 2) × ((pass_of other).mark ≡ 1) }
-    ensures { (xs : List B.Item) → BeganWith at xs (pass_of keeper) → (ys : List B.Item) × (B.items result ≡ xs ++ ys) × IsMerge (added_at at (pass_of other)) (added_at at (pass_of keeper)) ys }
+    ensures { HasBoth at (pass_of keeper) (pass_of other) (B.items result) }
 {
     places.gather(&mut keeper, other);
-    match places.take_out_at(&mut keeper, at) {
-        Some(book) => book,
-        None => unreachable!(),
+    take_gathered(places, &mut keeper, at)
+}
+
+/// The same of every book: all of them, in the order in which the places were given them. Where there is no memory, the books
+/// are dropped.
+///
+/// ```
+/// let (first, second) = join(&rt, || work(&places, first), || work(&places, second));
+/// for notes in end_all(alloc, &places, second, first)? {
+///     print(notes);
+/// }
+/// ```
+pub fn end_all<B: Book + Send + Drop>(
+    alloc: Global,
+    places: &Places<B>,
+    mut keeper: Seat<B>,
+    other: Seat<B>,
+) -> Result<Vec<B>, NoMemory>
+    requires keeper { IsWaiting (table_in places.now) keeper.token }
+    requires other { IsWaiting (table_in places.now) other.token }
+    requires marks { ((pass_of keeper).mark ≡ 2) × ((pass_of keeper).seats ≡ 2) × ((pass_of other).mark ≡ 1) }
+    ensures many { IfOk result (λ books. length books.items ≡ places.now.count) }
+    ensures each { IfOk result (λ books. (k : ℕ) (b : B) → get_elem? books.items k ≡ some b → HasBoth k (pass_of keeper) (pass_of other) (B.items b)) }
+{
+    places.gather(&mut keeper, other);
+    let mut books = Vec::new(alloc);
+    for at in 0..places.count {
+        books.push(take_gathered(places, &mut keeper, at))?;
     }
+    Ok(books)
 }

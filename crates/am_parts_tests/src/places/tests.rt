@@ -12,7 +12,7 @@ use crate::places::notes::Notes;
 use am_names::{EndpointId, NoMemory};
 use am_office_entries::Place;
 use am_places::{Book, Entered, Places, Seat, may_cross_threads};
-use am_places_stays::{enter, leave, open, write, write_all};
+use am_places_stays::{end_all, enter, leave, open, write, write_all};
 use std::alloc::Global;
 use std::process::Abort;
 use std::thread::join;
@@ -106,16 +106,12 @@ fn each_seat_finds_its_lines(rt: HostRuntime) {
         || work(&places, second, 1000),
         || work(&places, first, 2000),
     );
-    let (mut keeper, ours) = second_ended;
+    let (keeper, ours) = second_ended;
     let (other, theirs) = first_ended;
-    places.gather(&mut keeper, other);
+    let books = end_all(rt.alloc(), &places, keeper, other).expect(&rt, "the books");
     for at in 0..4_usize {
-        let Some(book) = places.take_out_at(&mut keeper, at) else {
-            rt.panic("no book")
-        };
-        assert!(rt; has_both(book.lines.as_slice(), ours[at], theirs[at]));
+        assert!(rt; has_both(books[at].lines.as_slice(), ours[at], theirs[at]));
     }
-    assert!(rt; places.take_out(&mut keeper, EndpointId(9)).is_none());
 }
 
 /// Puts a book on the host into frame 1, where no frame is claimed for it. For whom it is claimed, if it is for another.
