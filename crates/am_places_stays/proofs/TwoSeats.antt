@@ -11,41 +11,41 @@ use Rattle.am_places.proofs.Ends.{begins_longer, of-append}
 use Rattle.am_places_stays.specs.Stays.{AllBy, HasBoth, IsMerge, IsWaiting, Token, added_at}
 use Rattle.am_places_stays.proofs.Staying.{elsewhere_same}
 
-flat : {I : Type 0} → List (List I) → List I
+unfoldable pub flat : {I : Type 0} → List (List I) → List I
 flat [] = []
 flat (xs ∷ xss) = xs ++ flat xss
 
 -- ---- tenures of a mark
 
 module _ {I : Type 0} where
-  of_at : (m : ℕ) (t : Tenure I) (ts : List (Tenure I)) → t.by ≡ m → of m (t ∷ ts) ≡ t.items ∷ of m ts
+  pub of_at : (m : ℕ) (t : Tenure I) (ts : List (Tenure I)) → t.by ≡ m → of m (t ∷ ts) ≡ t.items ∷ of m ts
   of_at m t ts is = ap (λ (b : Bool). if b then t.items ∷ of m ts else of m ts) (eq-eqb t.by m is)
 
-  of_not : (m : ℕ) (t : Tenure I) (ts : List (Tenure I)) → t.by ≢ m → of m (t ∷ ts) ≡ of m ts
+  pub of_not : (m : ℕ) (t : Tenure I) (ts : List (Tenure I)) → t.by ≢ m → of m (t ∷ ts) ≡ of m ts
   of_not m t ts ne = ap (λ (b : Bool). if b then t.items ∷ of m ts else of m ts) (ne_eqb t.by m ne)
 
-  not_at : (m : ℕ) (t : Tenure I) (ts : List (Tenure I)) → of m (t ∷ ts) ≡ [] → t.by ≢ m
+  pub not_at : (m : ℕ) (t : Tenure I) (ts : List (Tenure I)) → of m (t ∷ ts) ≡ [] → t.by ≢ m
   not_at m t ts none is = absurd (let both : t.items ∷ of m ts ≡ [] = sym (of_at m t ts is) ∙ none in cc)
 
-  rest_none : (m : ℕ) (t : Tenure I) (ts : List (Tenure I)) → of m (t ∷ ts) ≡ [] → of m ts ≡ []
+  pub rest_none : (m : ℕ) (t : Tenure I) (ts : List (Tenure I)) → of m (t ∷ ts) ≡ [] → of m ts ≡ []
   rest_none m t ts none = sym (of_not m t ts (not_at m t ts none)) ∙ none
 
-  all_own : (m : ℕ) (ts : List (Tenure I)) → AllBy m ts → flat (of m ts) ≡ joined ts
+  pub all_own : (m : ℕ) (ts : List (Tenure I)) → AllBy m ts → flat (of m ts) ≡ joined ts
   unfolding flat
   all_own m [] h = refl
   all_own m (t ∷ ts) h = ap flat (of_at m t ts h.0) ∙ ap (λ (l : List I). t.items ++ l) (all_own m ts h.1)
 
-  none_other : (m n : ℕ) (ts : List (Tenure I)) → AllBy n ts → m ≢ n → of m ts ≡ []
+  pub none_other : (m n : ℕ) (ts : List (Tenure I)) → AllBy n ts → m ≢ n → of m ts ≡ []
   none_other m n [] h ne = refl
   none_other m n (t ∷ ts) h ne = of_not m t ts (λ e. ne (sym e ∙ h.0)) ∙ none_other m n ts h.1 ne
 
   -- ---- what two marks added
 
-  left_more : (ws xs ys zs : List I) → IsMerge xs ys zs → IsMerge (ws ++ xs) ys (ws ++ zs)
+  pub left_more : (ws xs ys zs : List I) → IsMerge xs ys zs → IsMerge (ws ++ xs) ys (ws ++ zs)
   left_more [] xs ys zs h = h
   left_more (a ∷ ws) xs ys zs h = inl (ws ++ xs, refl, left_more ws xs ys zs h)
 
-  right_more : (ws xs ys zs : List I) → IsMerge xs ys zs → IsMerge xs (ws ++ ys) (ws ++ zs)
+  pub right_more : (ws xs ys zs : List I) → IsMerge xs ys zs → IsMerge xs (ws ++ ys) (ws ++ zs)
   right_more [] xs ys zs h = h
   right_more (a ∷ ws) xs ys zs h = inr (ws ++ ys, refl, right_more ws xs ys zs h)
 
@@ -65,11 +65,11 @@ module _ {I : Type 0} where
           (right_more t.items (flat (of 1 ts)) (flat (of 2 ts)) (joined ts) more)
       by_mark (suc (suc (suc n))) is more = absurd (not_at (suc (suc (suc n))) t ts (far (suc (suc (suc n))) (omega arith)) is)
 
-no_length : {A : Type 0} (l : List A) → length l ≡ 0 → l ≡ []
+pub no_length : {A : Type 0} (l : List A) → length l ≡ 0 → l ≡ []
 no_length [] e = refl
 no_length (x ∷ xs) e = absurd (omega (arith, e))
 
-known_both : {I : Type 0} (k : ℕ) (xs ys : List (Known I)) → length xs ≡ length ys → k < length xs →
+pub known_both : {I : Type 0} (k : ℕ) (xs ys : List (Known I)) → length xs ≡ length ys → k < length xs →
     get_or (both_known xs ys) k nothing ≡ both_at (get_or xs k nothing) (get_or ys k nothing)
 known_both k [] ys e near = absurd (omega (arith, near))
 known_both k (x ∷ xs) [] e near = absurd (omega (arith, e))

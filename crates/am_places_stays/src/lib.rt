@@ -13,7 +13,7 @@ mod opening;
 mod stays;
 mod writing;
 
-pub use ending::{end_all, end_two};
+pub use ending::{end_all, end_seats, end_two};
 pub use opening::{open, open_two};
 pub use stays::{enter, leave};
 pub use writing::{Grow, write, write_all};
