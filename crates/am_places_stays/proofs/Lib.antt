@@ -1,6 +1,7 @@
 pub mod Staying
-pub mod TwoSeats
+pub mod Tenures
 pub mod ManySeats
+pub mod TwoSeats
 pub mod Taking
 pub mod Merges
 mod MomentsKept

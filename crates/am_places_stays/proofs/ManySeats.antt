@@ -17,7 +17,7 @@ use Rattle.am_places.specs.declared.board.Tenure.{Tenure}
 use Rattle.am_places.specs.declared.places.Seat.{Seat}
 use Rattle.am_places.proofs.Ends.{begins_longer, has-append, has_own, of-append}
 use Rattle.am_places_stays.specs.Stays.{AllBy, HasAll, IsMerge, IsMergeOf, IsWaiting, added_at, gathered_all}
-use Rattle.am_places_stays.proofs.TwoSeats.{all_own, flat, known_both, left_more, no_length, none_other, not_at, of_at, of_not, rest_none, right_more}
+use Rattle.am_places_stays.proofs.Tenures.{all_own, flat, known_both, left_more, no_length, none_other, not_at, of_at, of_not, rest_none, right_more}
 
 -- ---- the tenures that are not of a mark
 
@@ -142,7 +142,7 @@ module _ {I T : Type 0} where
   seen_all k v [] = refl
   seen_all k v (w ∷ ws) = seen_all k (gathered v w) ws ∙ both_seen k v.known w.known
 
-  inside_all : (k : ℕ) (v : Pass I T) (ws : List (Pass I T)) → (known_at k (gathered_all v ws)).inside ≡ (known_at k v).inside
+  pub inside_all : (k : ℕ) (v : Pass I T) (ws : List (Pass I T)) → (known_at k (gathered_all v ws)).inside ≡ (known_at k v).inside
   inside_all k v [] = refl
   inside_all k v (w ∷ ws) = inside_all k (gathered v w) ws ∙ both_inside k v.known w.known
 
