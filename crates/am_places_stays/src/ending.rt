@@ -105,8 +105,8 @@ pub fn end_all<B: Book + Send + Drop>(
     Ok(books)
 }
 
-/// Every book, where its places had this many seats and all of them wait: the last one, and the others in the order of their
-/// numbers. Where there is no memory, the books are dropped.
+/// Every book of places with any number of seats, all of which wait: the last one, and the others in the order of their numbers.
+/// The books are in the order in which the places were given them. Where there is no memory, they are dropped.
 ///
 /// ```
 /// let (places, mut seats) = open(alloc, books, ids, 0, 3)?;
