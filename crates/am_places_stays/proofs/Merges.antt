@@ -1,5 +1,5 @@
 -- Merges to which more is added, and what merges keep.
-use Rattle.std.proofs.Common.{◌≡◌, inl, inr, List, [], ◌∷◌, ◌++◌, refl, ap, subst, sym, ⊎_elim}
+use Rattle.std.proofs.Common.{◌≡◌, inl, inr, List, [], ◌∷◌, ◌++◌, refl, ap, subst, sym, ◌∙◌, ⊎_elim}
 use Rattle.std.specs.List.Sorted.{IsPermutation}
 use Rattle.std.proofs.lemmas.List.Sorted.{IsPermutation-cons, IsPermutation-middle, IsPermutation-refl, IsPermutation-trans}
 use Rattle.am_places_stays.specs.Stays.{IsMerge}
@@ -43,4 +43,18 @@ module _ {X : Type 0} where
   merge_is_permutation xs ys (z ∷ zs) h = ⊎_elim
       (λ l. from_left xs ys zs l.0 z l.1 (merge_is_permutation l.0 ys zs l.2))
       (λ r. from_right xs ys zs r.0 z r.1 (merge_is_permutation xs r.0 zs r.2))
+      h
+
+  pub merge_swaps : (xs ys zs : List X) → IsMerge xs ys zs → IsMerge ys xs zs
+  merge_swaps xs ys [] h = (h.1, h.0)
+  merge_swaps xs ys (z ∷ zs) h = ⊎_elim
+      (λ l. inr (l.0, l.1, merge_swaps l.0 ys zs l.2))
+      (λ r. inl (r.0, r.1, merge_swaps xs r.0 zs r.2))
+      h
+
+  pub merge_alone : (xs zs : List X) → IsMerge xs [] zs → zs ≡ xs
+  merge_alone xs [] h = sym h.0
+  merge_alone xs (z ∷ zs) h = ⊎_elim
+      (λ l. ap (λ (q : List X). z ∷ q) (merge_alone l.0 zs l.2) ∙ sym l.1)
+      (λ r. absurd (let none = r.1 in cc))
       h

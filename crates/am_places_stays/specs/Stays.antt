@@ -1,10 +1,10 @@
 -- What is known of a seat between two stays, and within one.
-use Rattle.std.specs.Prelude.{◌≡◌, ◌≢◌, ◌⊎◌, ℕ, ◌+◌, ◌<◌, Bool, true, false, Option, None, List, [], ◌∷◌, ◌++◌, drop, length}
+use Rattle.std.specs.Prelude.{◌≡◌, ◌≢◌, ◌⊎◌, ℕ, ◌+◌, ◌<◌, Bool, true, false, Option, None, List, [], ◌∷◌, ◌++◌, drop, length, map}
 use mathlib.Core.Option.{some}
 use lib.ListN.{get_elem?}
 use Rattle.atomic_table.specs.declared.shared.Seat.{Seat}
 use Rattle.atomic_table.specs.Seated.{TableId}
-use Rattle.am_places.specs.Rule.{Begins, FrameFits, IsOutside, joined, known_at, stirs, tenure, hand_in, pass_in}
+use Rattle.am_places.specs.Rule.{Begins, FrameFits, IsOutside, gathered, joined, known_at, stirs, tenure, hand_in, pass_in}
 use Rattle.am_places.specs.declared.board.Pass.{Pass}
 use Rattle.am_places.specs.declared.board.Tenure.{Tenure}
 
@@ -82,3 +82,18 @@ IsMerge {X} xs ys (z ∷ zs) = ((rest : List X) × (xs ≡ z ∷ rest) × IsMerg
 -- the list of the book at the position k is the one with which it began, and then what each of two seats added to it
 abbrev pub HasBoth : {I T : Type 0} → ℕ → Pass I T → Pass I T → List I → Type 0
 HasBoth {I} k v w list = (xs : List I) → BeganWith k xs v → (ys : List I) × (list ≡ xs ++ ys) × IsMerge (added_at k w) (added_at k v) ys
+
+-- the second list has the items of each of these lists, each once and in order
+abbrev pub IsMergeOf : {X : Type 0} → List (List X) → List X → Type 0
+IsMergeOf [] zs = zs ≡ []
+IsMergeOf {X} (xs ∷ xss) zs = (ys : List X) × IsMergeOf xss ys × IsMerge xs ys zs
+
+module _ {I T : Type 0} where
+  -- what one pass knows when it has gathered these
+  abbrev pub gathered_all : Pass I T → List (Pass I T) → Pass I T
+  gathered_all v [] = v
+  gathered_all v (w ∷ ws) = gathered_all (gathered v w) ws
+
+  -- the list of the book at the position k is the one with which it began, and then what each of these seats added to it
+  abbrev pub HasAll : ℕ → Pass I T → List (Pass I T) → List I → Type 0
+  HasAll k v ws list = (xs : List I) → BeganWith k xs v → (ys : List I) × (list ≡ xs ++ ys) × IsMergeOf (added_at k v ∷ map (added_at k) ws) ys

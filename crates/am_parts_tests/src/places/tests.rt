@@ -12,7 +12,7 @@ use crate::places::notes::Notes;
 use am_names::{EndpointId, NoMemory};
 use am_office_entries::Place;
 use am_places::{Book, Entered, Places, Seat, may_cross_threads};
-use am_places_stays::{end_all, enter, leave, open, write, write_all};
+use am_places_stays::{end_all, end_seats, enter, leave, open, write, write_all};
 use std::alloc::Global;
 use std::process::Abort;
 use std::thread::join;
@@ -112,6 +112,17 @@ fn each_seat_finds_its_lines(rt: HostRuntime) {
     for at in 0..4_usize {
         assert!(rt; has_both(books[at].lines.as_slice(), ours[at], theirs[at]));
     }
+}
+
+#[test]
+fn one_of_three_adds(rt: HostRuntime) {
+    let Ok((places, mut seats)) = four_books(rt.alloc(), 0, 3) else {
+        rt.panic("no places")
+    };
+    let mut last = last_seat(&places, 3, &mut seats).expect(&rt, "the last seat");
+    assert!(rt; write(&places, &mut last, 2, 7));
+    let books = end_seats(rt.alloc(), &places, last, seats).expect(&rt, "the books");
+    assert!(rt; books[2].lines.as_slice() == [7].as_slice() && books[3].lines.is_empty());
 }
 
 /// Puts a book on the host into frame 1, where no frame is claimed for it. For whom it is claimed, if it is for another.
