@@ -16,7 +16,6 @@ mod pictures;
 mod steps;
 mod tracks;
 
-pub use crate::view::pictures::journal_of;
 use crate::view::pictures::picture_in;
 use am_check::place_of;
 pub use am_lab_picture::Picture;

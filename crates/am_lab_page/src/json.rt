@@ -18,8 +18,8 @@ pub use crate::json::laws::{each_entry_has_its_line, nothing_is_escaped, objects
 pub use crate::json::objects::objects_text;
 use am_check::laws::yes_is_true;
 use am_check::place_of;
-use am_lab_drawings::view::journal_of;
 use am_lab_picture::{IndexedJournal, Lines, rows};
+use am_lab_reasons::journal::journal_of;
 use am_main_lines::Output;
 use am_main_step::check_output;
 use am_names::NoMemory;

@@ -17,8 +17,7 @@ ghost use Rattle.std.specs.Prelude.{◌≡◌, ◌⊎◌, ◌+◌, ◌≤◌, �
 use crate::view::lanes::lanes;
 use crate::view::parts::{LineRange, PictureFault, lines_of};
 use am_lab_picture::{Arrow, Cross, IndexedJournal, Lines, Picture, Row, arrows, crosses, rows};
-use am_lab_reasons::journal::reach_end;
-use am_machine::Cluster;
+use am_lab_reasons::journal::journal_of;
 use am_names::NoMemory;
 use am_office_entries::Journal;
 use am_office_entries::logged::LoggedJournal;
@@ -101,21 +100,6 @@ fn drawn(
         lanes,
         summary,
     })
-}
-
-/// The journal of a report of a scenario, made again.
-///
-/// `NoMemory` comes where there is none for it.
-pub fn journal_of(alloc: Global, scenario: &Scenario, bytes: &[u8]) -> Result<Journal, NoMemory>
-    requires few { length bytes.now < 2 ^ 31 }
-    requires lawful { IsLawful scenario.now }
-    requires report { (form : Kind) × IsReportOf form scenario.now bytes.now }
-    ensures { (form : Kind) (r : IsReportOf form scenario.now bytes.now) → IfOk result (λ journal. journal ≡ r.journal) }
-{
-    let mut cluster = Cluster::new(alloc, scenario)?;
-    reach_end(&mut cluster, bytes)?;
-    let logged = cluster.journal(alloc)?;
-    logged.copied(alloc)
 }
 
 // The picture of some lines of a journal, or why there is none.

@@ -11,11 +11,11 @@ journal_text-requires c =
     let form = c.requires.report.0 in
     let r = c.requires.report.1 in
     let t = reported form c.args.scenario.now c.requires.lawful c.args.bytes.now c.requires.few r in
-    let long = ap length (c.in_ok-journal.ensures form r) in
+    let long = ap length (c.in_ok-journal.ensures.made form r) in
     let low = t.low in
     let few = c.requires.few in
     omega (arith, long, low, few)
 
 pub returns : goal.returns
 returns c = λ form r.
-    subst (λ (j : List Entry). IfOk c.journal_text.result (λ (text : Vec ℕ). text.items ≡ json_of j)) (c.in_ok-journal.ensures form r) c.journal_text.ensures
+    subst (λ (j : List Entry). IfOk c.journal_text.result (λ (text : Vec ℕ). text.items ≡ json_of j)) (c.in_ok-journal.ensures.made form r) c.journal_text.ensures

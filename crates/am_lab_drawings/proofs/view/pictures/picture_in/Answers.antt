@@ -14,14 +14,14 @@ picture_part-requires-clause-again c =
     let form = c.requires.report.0 in
     let r = c.requires.report.1 in
     let t = reported form c.args.scenario.now c.requires.lawful c.args.bytes.now c.requires.few r in
-    subst (λ (j : List Entry). EachAfter (IsMadeAgain (layout_of c.args.scenario.now)) [] j) (sym (c.in-Ok.ensures form r)) t.are.each
+    subst (λ (j : List Entry). EachAfter (IsMadeAgain (layout_of c.args.scenario.now)) [] j) (sym (c.in-Ok.ensures.made form r)) t.are.each
 
 pub picture_part-requires-clause-few : goal.picture_part-requires-clause-few
 picture_part-requires-clause-few c =
     let form = c.requires.report.0 in
     let r = c.requires.report.1 in
     let t = reported form c.args.scenario.now c.requires.lawful c.args.bytes.now c.requires.few r in
-    let long = ap length (c.in-Ok.ensures form r) in
+    let long = ap length (c.in-Ok.ensures.made form r) in
     let low = t.low in
     let few = c.requires.few in
     omega (arith, long, low, few)
@@ -37,6 +37,6 @@ returns-in-Ok c = λ form r.
       begun = r.begun;
       ended = r.ended;
       report' = r.text;
-      answer' = e ∙ ap (λ (j : List Entry). picture_by c.args.scenario.now j (lines_of (length j) c.args.part)) (c.in-Ok.ensures form r);
+      answer' = e ∙ ap (λ (j : List Entry). picture_by c.args.scenario.now j (lines_of (length j) c.args.part)) (c.in-Ok.ensures.made form r);
     }))
     c.picture_part.ensures
