@@ -10,7 +10,7 @@ import sys
 import tempfile
 
 sys.path.insert(0, os.path.dirname(os.path.abspath(__file__)))
-from instructions import INPUTS, instructions
+from instructions import INPUTS, counted
 
 # what is doubled, and the inputs, each by what it has and the words of inputs.py
 SERIES = (
@@ -37,8 +37,8 @@ def main(program):
         for name, words in inputs:
             with tempfile.NamedTemporaryFile() as text:
                 subprocess.run([sys.executable, INPUTS, *words.split()], stdout=text, check=True)
-                made, count = entries(program, text.name), instructions([program, "run"], text.name)
-            print(f"| {what} | {name} | {made:,} | {count / 1_000_000:,.1f} M | {count / 1000 / made:,.1f} |", flush=True)
+                made, (_, count) = entries(program, text.name), counted([program, "run"], text.name)
+            print(f"| {what} | {name} | {made:,} | {count:,.1f} M | {1000 * count / made:,.1f} |", flush=True)
 
 
 if __name__ == "__main__":

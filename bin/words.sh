@@ -19,7 +19,7 @@ word_rows=(
     am2_lab 'scenario count W U ROUND' text 'prints the scenario of a round of am2 count W U' 'scenario count 4 0 1 README.md'
     am2_lab 'schedule SEED[..SEED2]' scenario 'runs threads in an order that a seed draws' 'schedule 0..100 examples/turns-clients.am2'
     am2_lab 'schedule SEED[..SEED2] --faults PERCENT' scenario 'the same, with the plan that the seed draws' 'schedule 0..100 --faults 20 examples/turns-clients.am2'
-    am2_lab 'json step|run' both 'prints the journal as lines of JSON' 'json step examples/first.am2 examples/first.out'
+    am2_lab 'json step|run [--shiviz]' both 'prints the journal as lines of JSON; with --shiviz as ShiViz reads it' 'json step examples/first.am2 examples/first.out'
     am2_lab 'page step|run' both 'prints a page for a browser' 'page step -o first.html examples/first.am2 examples/first.out'
     am2_lab 'state step|run [LINE [LINE2]]' both 'tells the state behind a line, or what changed from one to another' 'state step 9 examples/first.am2 examples/first.out'
     am2_lab 'find [--not] A..B WORDS..' behind 'prints the report of the least seed with such a line' "find 0..100 'fate 1.* request ran' -- examples/turns-clients.am2"

@@ -17,7 +17,7 @@ from itertools import groupby
 from scenario import tag_word
 from state import States
 
-TOP, PITCH, PAGE = 190, 18, 900
+TOP, PITCH, PAGE = 190, 18, 50
 BARS = "frame draining host disk direct records received".split()
 # the legend, line by line: the sign, its class, its dashes, and what it stands for
 LEGEND = [
@@ -102,9 +102,14 @@ class Journal:
         return "2 3" if answer else "none" if serial in self.requests else "9 3"
 
 
+def edge_of(rows):
+    """The lower edge of so many rows, and of the heads behind each page of them."""
+    return TOP + PITCH * (rows + rows // PAGE)
+
+
 def y_of(row):
     """The middle of a row."""
-    return TOP + PITCH * row + PITCH // 2
+    return edge_of(row) + PITCH // 2
 
 
 def title_of(element):
@@ -179,7 +184,7 @@ def bars_due(scenario, report):
 
 def bar_due(id, word, line, until, count):
     """Where a bar begins and how high it is, and its title."""
-    top, end = (TOP if it < 3 else TOP + PITCH * count if it == count + 3 else y_of(it - 3) for it in (line, until))
+    top, end = (TOP if it < 3 else edge_of(count) if it == count + 3 else y_of(it - 3) for it in (line, until))
     return top, end - top, f"endpoint {id}: {word}, line {line} to {until}"
 
 
@@ -191,7 +196,7 @@ def heads_in(picture):
 
 def heads_due(states, rows):
     """The heads that are due: of nodes and interfaces, and then of endpoints."""
-    again = [TOP + PAGE * (page + 1) + 3 for page in range(PITCH * rows // PAGE)]
+    again = [edge_of(PAGE * (page + 1)) - PITCH // 2 + 3 for page in range(rows // PAGE)]
     for node in range(states.scenario.nodes):
         yield "head", TOP - 42, f"node {node}", f"node {node}"
         if states.scenario.network == "packet":
@@ -208,7 +213,8 @@ def heads_due(states, rows):
 
 def legend_in(picture):
     """The signs above the lanes, and what stands beside each."""
-    above = [it for it in picture if it.tag in (SVG + "use", SVG + "text") and int(it.get("y")) < 134 and it.get("class") != "head"]
+    totals = picture.find(SVG + "desc").text
+    above = [it for it in picture if it.tag in (SVG + "use", SVG + "text") and int(it.get("y")) < 134 and it.get("class") != "head" and it.text != totals]
     signs, texts = above[::2], above[1::2]
     for sign, text in zip(signs, texts):
         beside = int(text.get("x")) - int(sign.get("x")), int(text.get("y")) - int(sign.get("y"))
@@ -227,6 +233,13 @@ def legend_due(picture):
         signs.add("#no-fate")
     boxes, dashes = {it.get("class") for it in below if it.tag == SVG + "rect"}, {it.get("stroke-dasharray") for it in packets}
     return [it for it in LEGEND if (it[1] in boxes if it[0] == "#box" else it[2] in dashes if it[0] == "#way" else it[0] in signs)]
+
+
+def legend_lines_are_full(picture):
+    """Whether each line of the legend stands below the one before it, and the totals below the last."""
+    heights = sorted({int(it.get("y")) for it in picture if it.tag == SVG + "use" and int(it.get("y")) < 134})
+    totals = [int(it.get("y")) for it in picture if it.text == picture.find(SVG + "desc").text and it.tag == SVG + "text"]
+    return heights == [18 + 24 * line for line in range(len(heights))] and totals == [18 + 24 * len(heights) - 4]
 
 
 def faults_in(picture, scenario, report):
@@ -258,8 +271,8 @@ def faults_in(picture, scenario, report):
         yield "heads"
     if list(legend_in(picture)) != legend_due(picture):
         yield "legend"
-    if [it.text for it in picture if it.get("y") == "134"] != [picture.find(SVG + "desc").text]:
-        yield "totals"
+    if not legend_lines_are_full(picture):
+        yield "lines of the legend"
     yield from row_faults(picture, journal, lines, colour)
 
 

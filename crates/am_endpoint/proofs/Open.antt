@@ -98,7 +98,7 @@ answer_same e s m (Some (Add to)) = refl
 requests_same : (e : EndpointId) (s : State) (ms : List Message) → poll_requests e (on_host s.body) ms ≡ poll_requests e s ms
 requests_same e s [] = refl
 requests_same e s (m ∷ ms) =
-    ap (λ reply. if nat_le 16 (replies_held s.body) then Out.Blocked else Out.Ran m (Some m.handler) (Some reply))
+    ap (λ reply. if nat_le 16 (replies_held s.body) then Out.Blocked else Out.Ran (Some m.handler) m (Some reply))
     (answer_same e s m (entry_at s.body.handlers m.handler))
 
 received_same : (e : EndpointId) (s : State) (found : Option Message) → poll_received e (on_host s.body) found ≡ poll_received e s found
@@ -114,6 +114,6 @@ pub polled : (h : Head) (b c : Body) (o : Outcome) → record {
   body = (called (on_host b) Calls.Poll o).body;
 } ≡ called (record { head = h; body = b }) Calls.Poll o
 polled h b c (Out.Zero serial why) = refl
-polled h b c (Out.Ran m handler None) = refl
-polled h b c (Out.Ran m handler (Some reply)) = refl
+polled h b c (Out.Ran handler m None) = refl
+polled h b c (Out.Ran handler m (Some reply)) = refl
 polled h b c o = refl

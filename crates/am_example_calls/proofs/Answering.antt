@@ -12,11 +12,11 @@ use Rattle.am_names.specs.declared.Words.{Words}
 use Rattle.am_office_entries.specs.declared.Entry.{Entry}
 use Rattle.am_scenario_plan.specs.declared.plan.PlanLine.{PlanLine}
 use Rattle.am_scenario_types.specs.Lists.{ScenarioLists}
-use Rattle.am_library.specs.declared.runs.Run.{Run}
+use Rattle.am_library_views.specs.declared.runs.Run.{Run}
 use Rattle.am_library.specs.Laws.{AllRunWhereTheyLead, EachAskedHasItsEnd, EachReplyHasItsEnd, EchoesAreWords, EndOf, IsGone, ItRan, WasRefused}
 use Rattle.am_library.specs.Laws.{WhatRanWasAskedFor}
 use Rattle.am_library.specs.Runs.{IsRun}
-use Rattle.am_library.specs.Views.{reply_to, requests_run, runs_at, with_reply}
+use Rattle.am_library_views.specs.Views.{reply_to, requests_run, runs_at, with_reply}
 use Rattle.am_example_calls.specs.declared.answers.Answer.{Answer}
 use Rattle.am_example_calls.specs.declared.answers.Answer.TheVariants.{Heard, Unheard, NeverRan}
 use Rattle.am_example_calls.specs.Answers.{answer_at, is_heard, noted}

@@ -14,10 +14,10 @@ use Rattle.am_office_entries.specs.declared.HandlerKind.TheVariants.{Echo}
 use Rattle.am_scenario_plan.specs.declared.plan.PlanLine.{PlanLine}
 use Rattle.am_scenario_types.specs.declared.parts.ScriptCall.{ScriptCall}
 use Rattle.am_scenario_types.specs.Lists.{ScenarioLists}
-use Rattle.am_library.specs.declared.draft.DraftFault.{DraftFault}
-use Rattle.am_library.specs.Drafts.{made, started, with_calls, with_nodes, with_plans, with_setting}
-use Rattle.am_library.specs.declared.draft.Setting.TheVariants as Set
-use Rattle.am_library.specs.Ends.{words_asked}
+use Rattle.am_library_drafts.specs.declared.draft.DraftFault.{DraftFault}
+use Rattle.am_library_drafts.specs.Drafts.{made, started, with_calls, with_nodes, with_plans, with_setting}
+use Rattle.am_library_drafts.specs.declared.draft.Setting.TheVariants as Set
+use Rattle.am_library_views.specs.Ends.{words_asked}
 use Rattle.am_library.specs.Laws.{ScriptsGrow, leads, leaves_echoing}
 use Rattle.am_example_calls.specs.declared.answers.Answer.{Answer}
 use Rattle.am_example_calls.specs.declared.answers.Answer.TheVariants.{Heard, Unheard, NeverRan}

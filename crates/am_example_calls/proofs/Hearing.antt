@@ -8,8 +8,8 @@ use Rattle.std.proofs.lemmas.List.{get_or-set_same, get_or-set_other, length-set
 use Rattle.std.proofs.lemmas.List.Elements.{Contains-append_cases, Contains-append_left, Contains-append_right, Contains-push}
 use Rattle.am_names.specs.declared.Message.{Message}
 use Rattle.am_office_entries.specs.declared.Entry.{Entry}
-use Rattle.am_library.specs.Views.{reply_to, with_reply}
-use Rattle.am_library.proofs.Distinct.{only_one}
+use Rattle.am_library_views.specs.Views.{reply_to, with_reply}
+use Rattle.am_library_views.proofs.Distinct.{only_one}
 use Rattle.am_example_calls.specs.declared.answers.Answer.{Answer}
 use Rattle.am_example_calls.specs.declared.answers.Answer.TheVariants.{Heard, Unheard, NeverRan}
 use Rattle.am_example_calls.specs.Answers.{after_run, answer_at, is_heard, noted}

@@ -1,7 +1,7 @@
 -- What is known of each call, run by run.
 use Rattle.std.specs.Prelude.{ℕ, Bool, true, false, Option, Some, None, List, slice_index_or, slice_set}
 use Rattle.am_names.specs.declared.Message.{Message}
-use Rattle.am_library.specs.declared.runs.Run.{Run}
+use Rattle.am_library_views.specs.declared.runs.Run.{Run}
 use Rattle.am_example_calls.specs.declared.answers.Answer.{Answer}
 use Rattle.am_example_calls.specs.declared.answers.Answer.TheVariants.{Heard, Unheard, NeverRan}
 

@@ -7,10 +7,10 @@ use Rattle.am_names.specs.declared.Words.{Words}
 use Rattle.am_office_entries.specs.declared.Entry.{Entry}
 use Rattle.am_scenario_plan.specs.declared.plan.PlanLine.{PlanLine}
 use Rattle.am_scenario_types.specs.Lists.{ScenarioLists}
-use Rattle.am_library.specs.Ends.{words_refused}
+use Rattle.am_library_views.specs.Ends.{words_refused}
 use Rattle.am_library.specs.Laws.{CameToNothing, IsUnanswered}
 use Rattle.am_library.specs.Runs.{IsRun}
-use Rattle.am_library.specs.Views.{requests_run, requests_sent}
+use Rattle.am_library_views.specs.Views.{requests_run, requests_sent}
 use Rattle.am_example_calls.specs.declared.answers.Answer.{Answer}
 use Rattle.am_example_calls.specs.declared.answers.Answer.TheVariants.{Heard, Unheard, NeverRan}
 use Rattle.am_example_calls.specs.Answers.{answer_at}

@@ -3,14 +3,16 @@
 ghost use Rattle.std.specs.Prelude.{◌≡◌, ◌∷◌, [], IfOk, List, OnOk, fold, length, replicate};
 ghost use Rattle.std.specs.Thread.{IsSync};
 ghost use Rattle.am_scenario_plan.specs.declared.plan.PlanLine.{PlanLine};
-ghost use Rattle.am_library.specs.Drafts.{started};
+ghost use Rattle.am_library_drafts.specs.Drafts.{started};
 ghost use Rattle.am_example_calls.specs.declared.answers.Answer.TheVariants.{NeverRan};
 ghost use Rattle.am_example_calls.specs.Answers.{after_run, noted};
 ghost use Rattle.am_example_calls.specs.Calls.{AreAnswered};
 ghost use Rattle.am_example_calls.specs.Rounds.{Asks, AsksFor, IsSetUp, open_call};
 
 use am_library::calls::{handler, map, poll, request, two_words};
-use am_library::{Draft, DraftFault, RoundFault, Run, Runner, Setting, laws, runs_with_replies};
+use am_library::{
+    Draft, DraftFault, RoundFault, Run, RunDraft, Runner, Setting, laws, runs_with_replies,
+};
 use am_names::{EndpointId, Message, NoMemory, Tag, Words};
 use am_office_entries::HandlerKind;
 use am_scenario_types::PlanLine;

@@ -18,13 +18,13 @@ use Rattle.am_office_entries.specs.declared.Entry.{Entry}
 use Rattle.am_scenario_plan.specs.declared.plan.LinkFault.TheVariants.{Repeat}
 use Rattle.am_scenario_plan.specs.declared.plan.PlanLine.{PlanLine}
 use Rattle.am_scenario_types.specs.Lists.{ScenarioLists}
-use Rattle.am_library.specs.declared.round_sum.RoundSum.{RoundSum}
-use Rattle.am_library.specs.Ends.{is_back, is_lost, words_asked, words_fated, words_of, words_refused, words_run}
-use Rattle.am_library.specs.Laws.{AllRunWhereTheyLead, EachRequestHasItsEnd, NothingIsUnknown, SumsAreOfRuns, WhatRanWasAskedFor, first_of, first_word}
+use Rattle.am_library_views.specs.declared.round_sum.RoundSum.{RoundSum}
+use Rattle.am_library_views.specs.Ends.{is_back, is_lost, words_asked, words_fated, words_of, words_refused, words_run}
+use Rattle.am_library.specs.Laws.{AllRunWhereTheyLead, EachRequestHasItsEnd, NothingIsUnknown, SumsAreOfRuns, WhatRanWasAskedFor, first_of}
 use Rattle.am_library.specs.Runs.{IsRun}
-use Rattle.am_library.specs.RoundSums.{IsBegun, IsOutcome, is_whole, left_by}
-use Rattle.am_library.specs.Views.{is_to, requests_run, runs_at, sum_at}
-use Rattle.am_library.proofs.Weights.{sum_map}
+use Rattle.am_library_views.specs.RoundSums.{IsBegun, IsOutcome, is_whole, left_by}
+use Rattle.am_library_views.specs.Views.{first_word, is_to, requests_run, runs_at, sum_at}
+use Rattle.am_library_views.proofs.Weights.{sum_map}
 use Rattle.am_example_reduce.specs.Rounds.{Asks, SendsSum, end_of, root}
 use Rattle.am_example_reduce.specs.Sums.{AreNotes, IsAfter, Leave, Run, Sums, SumsAllBut, heard_by, unknown_by, weight_at_root, weight_summed}
 use Rattle.am_example_reduce.proofs.Lists.{filter_in}

@@ -13,9 +13,9 @@ use Rattle.am_office_entries.specs.declared.Call.TheVariants as Calls
 use Rattle.am_scenario_plan.specs.declared.plan.PlanLine.{PlanLine}
 use Rattle.am_scenario_types.specs.declared.parts.ScriptCall.{ScriptCall}
 use Rattle.am_scenario_types.specs.Lists.{ScenarioLists}
-use Rattle.am_library.specs.declared.draft.DraftFault.{DraftFault}
-use Rattle.am_library.specs.Drafts.{made, with_call, with_calls}
-use Rattle.am_library.specs.Ends.{words_asked}
+use Rattle.am_library_drafts.specs.declared.draft.DraftFault.{DraftFault}
+use Rattle.am_library_drafts.specs.Drafts.{made, with_call, with_calls}
+use Rattle.am_library_views.specs.Ends.{words_asked}
 use Rattle.am_library.specs.Laws.{ScriptsGrow, is_adding, leads, leaves_adding}
 use Rattle.am_example_reduce.specs.Rounds.{Asks, SendsSum, end_of, root}
 

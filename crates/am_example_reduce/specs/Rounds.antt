@@ -5,7 +5,7 @@ use Rattle.am_names.specs.declared.EndpointId.{EndpointId}
 use Rattle.am_names.specs.declared.Words.{Words}
 use Rattle.am_scenario_plan.specs.declared.plan.PlanLine.{PlanLine}
 use Rattle.am_scenario_types.specs.Lists.{ScenarioLists}
-use Rattle.am_library.specs.Ends.{words_asked}
+use Rattle.am_library_views.specs.Ends.{words_asked}
 use Rattle.am_library.specs.Laws.{Adds, LeadsTo}
 
 abbrev pub root : EndpointId

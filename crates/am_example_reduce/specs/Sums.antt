@@ -8,12 +8,12 @@ use Rattle.am_office_entries.specs.declared.Entry.{Entry}
 use Rattle.am_scenario_plan.specs.declared.plan.LinkFault.TheVariants.{Repeat}
 use Rattle.am_scenario_plan.specs.declared.plan.PlanLine.{PlanLine}
 use Rattle.am_scenario_types.specs.Lists.{ScenarioLists}
-use Rattle.am_library.specs.declared.round_sum.RoundSum.{RoundSum}
-use Rattle.am_library.specs.Ends.{is_lost, words_asked, words_fated}
-use Rattle.am_library.specs.Laws.{first_of, first_word}
+use Rattle.am_library_views.specs.declared.round_sum.RoundSum.{RoundSum}
+use Rattle.am_library_views.specs.Ends.{is_lost, words_asked, words_fated}
+use Rattle.am_library.specs.Laws.{first_of}
 use Rattle.am_library.specs.Runs.{IsRun}
-use Rattle.am_library.specs.RoundSums.{left_by}
-use Rattle.am_library.specs.Views.{runs_at, sum_at}
+use Rattle.am_library_views.specs.RoundSums.{left_by}
+use Rattle.am_library_views.specs.Views.{first_word, runs_at, sum_at}
 use Rattle.am_example_reduce.specs.declared.reduce.Reduced.{Reduced}
 use Rattle.am_example_reduce.specs.declared.reduce.Reduced.TheVariants as Answer
 use Rattle.am_example_reduce.specs.Rounds.{end_of, root}

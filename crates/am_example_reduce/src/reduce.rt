@@ -11,7 +11,8 @@ ghost use Rattle.am_example_reduce.specs.Sums.{IsReduced, heard_by};
 
 use am_library::calls::{handler, map, poll, request, two_words};
 use am_library::{
-    Draft, DraftFault, Finished, RoundFault, RoundSum, Runner, Setting, first_word_at, laws,
+    Draft, DraftFault, Finished, RoundFault, RoundSum, RunDraft, Runner, Setting, first_word_at,
+    laws,
 };
 use am_names::{EndpointId, NoMemory, NodeId, Tag, Words};
 use am_office_entries::HandlerKind;

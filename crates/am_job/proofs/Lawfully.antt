@@ -87,7 +87,7 @@ one_thread node (suc n) =
 end_there : (id : EndpointId) (n : ℕ) → id.0 < n → node_of (ends_below n) id ≡ Some (record { 0 = id.0 / 2 })
 end_there id n less = ap (λ (o : Option EndLine). option_map (λ end. end.node) o) (key_finds end_line (λ end. end.id.0) (λ k. refl) n id.0 less)
 
-thread_there : (id n : ℕ) → id < n → thread_node (threads_below n) id ≡ Some (record { 0 = id })
+pub thread_there : (id n : ℕ) → id < n → thread_node (threads_below n) id ≡ Some (record { 0 = id })
 thread_there id n less = ap (λ (o : Option ThreadLine). option_map (λ thread. thread.node) o)
     (key_finds thread_line (λ thread. thread.id) (λ k. refl) n id less)
 

@@ -9,8 +9,5 @@ pub mod Tallied
 pub mod Told
 pub mod Counted
 pub mod Lines
-pub mod Injected
-pub mod Noted
-pub mod Called
-pub mod RoundsRun
+pub mod Declared
 pub mod Ends

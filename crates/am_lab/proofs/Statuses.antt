@@ -32,6 +32,7 @@ use Rattle.am_lab_schedules.specs.Schedules.{SchedulesAnswers}
 use Rattle.am_lab_schedules.specs.Trials.{ScheduleAnswers, tried}
 use Rattle.am_lab_schedules.specs.declared.finds.Wanted.{Wanted}
 use Rattle.am_lab_schedules.specs.declared.finds.Wanted.TheVariants as Sought
+use Rattle.am_lab_shiviz.specs.Answers.{ShivizAnswers, WritesShiviz}
 use Rattle.am_lab_shrink.specs.Reports.{Answers, without_turns}
 use Rattle.am_lab_shrink.specs.Shrinks.{ShrinkAnswers, ShrinksBy}
 use Rattle.am_lab_shrink.specs.declared.reports.Making.{Making}
@@ -214,6 +215,14 @@ json_by form bytes checked answer checks (inr writes) = inl (ap (λ (a : Answer)
 json_own : (form : Form) (bytes : List ℕ) (answer : Answer) → JsonAnswers form bytes answer → IsOneOf (0 ∷ 3 ∷ 6 ∷ 10 ∷ []) answer.status
 json_own form bytes answer j = json_by form bytes j.checked answer j.checks j.more
 
+shiviz_by : (form : Form) (bytes : List ℕ) (checked answer : Answer) → CheckAnswers form bytes checked →
+    ((checked.status ≢ 0) × (answer ≡ checked)) ⊎ WritesShiviz form bytes checked answer → IsOneOf (0 ∷ 3 ∷ 6 ∷ 10 ∷ []) answer.status
+shiviz_by form bytes checked answer checks (inl other) = checked_own form bytes checked answer checks other.1
+shiviz_by form bytes checked answer checks (inr writes) = inl (ap (λ (a : Answer). a.status) writes.answer')
+
+shiviz_own : (form : Form) (bytes : List ℕ) (answer : Answer) → ShivizAnswers form bytes answer → IsOneOf (0 ∷ 3 ∷ 6 ∷ 10 ∷ []) answer.status
+shiviz_own form bytes answer j = shiviz_by form bytes j.checked answer j.checks j.more
+
 told_own : (form : Form) (bytes : List ℕ) (told answer : Answer) → JsonAnswers form bytes told → answer ≡ told →
     IsOneOf (0 ∷ 3 ∷ 6 ∷ 10 ∷ 11 ∷ 12 ∷ []) answer.status
 told_own form bytes told answer tells is =
@@ -355,6 +364,7 @@ command_own Commands.Replay given bytes answer answers = replay_own bytes answer
 command_own (Commands.Schedule seed faults) given bytes answer answers = schedule_own faults seed (grammar Forms.Run bytes) answer answers
 command_own (Commands.Schedules trials) given bytes answer answers = schedules_own trials.faults (grammar Forms.Run bytes) trials.seeds.from trials.seeds.to answer answers
 command_own (Commands.Json form) given bytes answer answers = json_own form bytes answer answers
+command_own (Commands.Shiviz form) given bytes answer answers = shiviz_own form bytes answer answers
 command_own (Commands.Page form) given bytes answer answers = page_own form bytes answer answers
 command_own (Commands.State form states) given bytes answer answers = state_own form bytes (lines_of_states states) answer answers
 command_own (Commands.Find trials) given bytes answer answers =
@@ -380,6 +390,7 @@ full_own Commands.Replay reads = inr (inr (inl refl))
 full_own (Commands.Schedule seed faults) reads = absurd (cc)
 full_own (Commands.Schedules trials) reads = absurd (cc)
 full_own (Commands.Json form) reads = inr (inr (inl refl))
+full_own (Commands.Shiviz form) reads = inr (inr (inl refl))
 full_own (Commands.Page form) reads = inr (inr (inl refl))
 full_own (Commands.State form states) reads = inr (inr (inl refl))
 full_own (Commands.Find trials) reads = absurd (cc)
@@ -423,6 +434,7 @@ in_all Commands.Replay status is = longer (0 ∷ 3 ∷ 6 ∷ 10 ∷ 11 ∷ []) (
 in_all (Commands.Schedule seed faults) status is = longer (0 ∷ 3 ∷ 6 ∷ []) (10 ∷ 11 ∷ 12 ∷ []) status is
 in_all (Commands.Schedules trials) status is = longer (0 ∷ 3 ∷ 6 ∷ []) (10 ∷ 11 ∷ 12 ∷ []) status is
 in_all (Commands.Json form) status is = longer (0 ∷ 3 ∷ 6 ∷ 10 ∷ []) (11 ∷ 12 ∷ []) status is
+in_all (Commands.Shiviz form) status is = longer (0 ∷ 3 ∷ 6 ∷ 10 ∷ []) (11 ∷ 12 ∷ []) status is
 in_all (Commands.Page form) status is = is
 in_all (Commands.State form states) status is = wider (0 ∷ 3 ∷ 6 ∷ 10 ∷ []) 11 (12 ∷ []) status is
 in_all (Commands.Find trials) status is = wider (0 ∷ 3 ∷ 6 ∷ 10 ∷ []) 11 (12 ∷ []) status (wider (0 ∷ 3 ∷ 6 ∷ []) 10 (12 ∷ []) status is)

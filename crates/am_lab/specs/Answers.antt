@@ -26,6 +26,7 @@ use Rattle.am_lab_schedules.specs.Finds.{FindAnswers}
 use Rattle.am_lab_schedules.specs.Schedules.{SchedulesAnswers}
 use Rattle.am_lab_schedules.specs.Trials.{ScheduleAnswers}
 use Rattle.am_lab_schedules.specs.declared.finds.Wanted.TheVariants as Wanted
+use Rattle.am_lab_shiviz.specs.Answers.{ShivizAnswers}
 use Rattle.am_lab_shrink.specs.Shrinks.{ShrinkAnswers}
 use Rattle.am_lab_shrink.specs.declared.reports.Making.{Making}
 use Rattle.am_lab_shrink.specs.declared.reports.Making.TheVariants as Makings
@@ -99,6 +100,7 @@ AnswersTo Commands.Replay given bytes answer = ReplayAnswers bytes answer
 AnswersTo (Commands.Schedule seed faults) given bytes answer = ScheduleAnswers faults seed (grammar Forms.Run bytes) answer
 AnswersTo (Commands.Schedules trials) given bytes answer = SchedulesAnswers trials.faults (grammar Forms.Run bytes) trials.seeds.from trials.seeds.to answer
 AnswersTo (Commands.Json form) given bytes answer = JsonAnswers form bytes answer
+AnswersTo (Commands.Shiviz form) given bytes answer = ShivizAnswers form bytes answer
 AnswersTo (Commands.Page form) given bytes answer = PageAnswers form bytes answer
 AnswersTo (Commands.State form states) given bytes answer = StateAnswers form bytes (lines_of_states states) answer
 AnswersTo (Commands.Find trials) given bytes answer =
@@ -133,6 +135,7 @@ own_statuses Commands.Replay = 0 ∷ 3 ∷ 6 ∷ 10 ∷ 11 ∷ []
 own_statuses (Commands.Schedule seed faults) = 0 ∷ 3 ∷ 6 ∷ []
 own_statuses (Commands.Schedules trials) = 0 ∷ 3 ∷ 6 ∷ []
 own_statuses (Commands.Json form) = 0 ∷ 3 ∷ 6 ∷ 10 ∷ []
+own_statuses (Commands.Shiviz form) = 0 ∷ 3 ∷ 6 ∷ 10 ∷ []
 own_statuses (Commands.Page form) = 0 ∷ 3 ∷ 6 ∷ 10 ∷ 11 ∷ 12 ∷ []
 own_statuses (Commands.State form states) = 0 ∷ 3 ∷ 6 ∷ 10 ∷ 12 ∷ []
 own_statuses (Commands.Find trials) = 0 ∷ 3 ∷ 6 ∷ 12 ∷ []

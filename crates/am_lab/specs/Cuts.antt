@@ -39,6 +39,7 @@ reads_report Commands.Replay = true
 reads_report (Commands.Schedule seed faults) = false
 reads_report (Commands.Schedules trials) = false
 reads_report (Commands.Json form) = true
+reads_report (Commands.Shiviz form) = true
 reads_report (Commands.Page form) = true
 reads_report (Commands.State form states) = true
 reads_report (Commands.Find trials) = false

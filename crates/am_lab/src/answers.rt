@@ -27,6 +27,7 @@ use am_lab_scenarios::derived::{
 use am_lab_scenarios::texts::{replay_output, scenario_output};
 use am_lab_schedules::one_seed::seed_output;
 use am_lab_schedules::{Wanted, find_output, schedules_output};
+use am_lab_shiviz::shiviz_output;
 use am_lab_shrink::{Making, shrink_output};
 use am_lab_state::{StateLines, state_output};
 use am_lab_words::{Asked, Lines, States, Trials};
@@ -235,6 +236,7 @@ fn answered_uncut(
         Asked::Schedule { seed, faults } => scheduled(alloc, bytes, seed, faults),
         Asked::Schedules(trials) => told_of_each(alloc, bytes, trials),
         Asked::Json(form) => json_output(alloc, form, bytes),
+        Asked::Shiviz(form) => shiviz_output(alloc, form, bytes),
         Asked::Page(form) => page_output(alloc, form, bytes),
         Asked::State { form, states } => state_output(alloc, form, bytes, lines_of(states)),
         Asked::Find(trials) => found(alloc, bytes, trials, given, Wanted::WithLine),

@@ -48,6 +48,7 @@ fn reads_report(asked: Asked) -> bool
         | Asked::Chart { .. }
         | Asked::Replay
         | Asked::Json(_)
+        | Asked::Shiviz(_)
         | Asked::Page(_)
         | Asked::State { .. } => true,
         Asked::Scenario(_)

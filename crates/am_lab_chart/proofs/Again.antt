@@ -9,15 +9,15 @@ use Rattle.am_lab_chart.proofs.Each.{two_parts}
 
 pub one_page_more : (x : ℕ) (told words : List Word) (page : ℕ) →
     printed (repeated x told words (page + 1)) ≡ printed (repeated x told words page) ++ printed
-    (head (codes "again") x (top + 900 * (page + 1) + 3) (codes "9") told words)
+    (head (codes "again") x (top + 912 + 918 * page) (codes "9") told words)
 one_page_more x told words page = rw add-one refl
 
 -- what is appended behind so many of them
 pub again_more : (x : ℕ) (told words : List Word) (page y : ℕ) (before out new : List ℕ) → out ≡ before ++ printed (repeated x told words page) →
-    new ≡ out ++ printed (head (codes "again") x y (codes "9") told words) → y ≡ top + 900 * (page + 1) + 3 →
+    new ≡ out ++ printed (head (codes "again") x y (codes "9") told words) → y ≡ top + 912 + 918 * page →
     new ≡ before ++ printed (repeated x told words (page + 1))
 again_more x told words page y before out new e f h =
-    let last : List ℕ = printed (head (codes "again") x (top + 900 * (page + 1) + 3) (codes "9") told words) in
+    let last : List ℕ = printed (head (codes "again") x (top + 912 + 918 * page) (codes "9") told words) in
     f ∙ ap (λ (t : List ℕ). t ++ printed (head (codes "again") x y (codes "9") told words)) e
     ∙ ap (λ (n : ℕ). (before ++ printed (repeated x told words page)) ++ printed (head (codes "again") x n (codes "9") told words)) h
     ∙ append_assoc before (printed (repeated x told words page)) last

@@ -1,11 +1,11 @@
 -- One sign of the legend more.
-use Rattle.std.proofs.Common.{◌≡◌, ℕ, ◌+◌, ◌<◌, Bool, true, false, List, ◌∷◌, ◌++◌, drop, get_or, length, map, ap, sym, ◌∙◌, append_assoc, if◌then◌else◌}
+use Rattle.std.proofs.Common.{◌≡◌, ℕ, ◌+◌, ◌<◌, Bool, true, false, ◌||◌, List, ◌∷◌, ◌++◌, drop, get_or, length, map, ap, sym, ◌∙◌, append_assoc, if◌then◌else◌}
 use Rattle.std.proofs.lemmas.List.{drop_more}
 use Rattle.am_lab_picture.specs.Data.{PictureLists}
 use Rattle.am_lab_xml.specs.Trees.{Content, printed}
 use Rattle.am_lab_xml.specs.Trees.{Content as Contents}
 use Rattle.am_lab_chart.specs.Known.{occurs}
-use Rattle.am_lab_chart.specs.Legends.{Explained, meaning, meanings, meant_by}
+use Rattle.am_lab_chart.specs.Legends.{Explained, has_some, meaning, meanings, meant_by}
 use Rattle.am_lab_chart.specs.declared.legends.Meaning.{Meaning}
 
 -- what is left to append, by whether the next sign occurs
@@ -41,3 +41,31 @@ pub meaning_passed : (p : PictureLists) (ms : List Meaning) (x y i : ℕ) (d : M
     out ++ printed (meanings p x y (map meant_by (drop i ms))) ≡ all → out ++ printed (meanings p x y (map meant_by (drop (i + 1) ms))) ≡ all
 meaning_passed p ms x y i d e out all less at is stands =
     sym (ap (λ (t : List ℕ). out ++ t) (left_by p ms x y i d e false less at is)) ∙ stands
+
+-- ---- whether any occurs
+
+-- whether one of those that are left occurs, by whether the next one does
+any_by : (p : PictureLists) (ms : List Meaning) (i : ℕ) (d : Meaning) (e : Explained) (answer : Bool) → i < length ms → e ≡ meant_by (get_or ms i d) →
+    occurs p e.key ≡ answer → has_some p (map meant_by (drop i ms)) ≡ (answer || has_some p (map meant_by (drop (i + 1) ms)))
+any_by p ms i d e answer less at is =
+    ap (λ (l : List Meaning). has_some p (map meant_by l)) (drop_more ms i d less)
+    ∙ ap (λ (first : Explained). occurs p first.key || has_some p (map meant_by (drop (i + 1) ms))) (sym at)
+    ∙ ap (λ (b : Bool). b || has_some p (map meant_by (drop (i + 1) ms))) is
+
+or_true : (before more all : Bool) → (before || (true || more)) ≡ all → (true || more) ≡ all
+or_true true more all e = e
+or_true false more all e = e
+
+-- one that occurs
+pub some_now : (p : PictureLists) (ms : List Meaning) (i : ℕ) (d : Meaning) (e : Explained) (before all : Bool) → i < length ms →
+    e ≡ meant_by (get_or ms i d) → occurs p e.key ≡ true → (before || has_some p (map meant_by (drop i ms))) ≡ all →
+    (true || has_some p (map meant_by (drop (i + 1) ms))) ≡ all
+some_now p ms i d e before all less at is stands =
+    or_true before (has_some p (map meant_by (drop (i + 1) ms))) all (ap (λ (b : Bool). before || b) (sym (any_by p ms i d e true less at is)) ∙ stands)
+
+-- one that doesn't
+pub some_later : (p : PictureLists) (ms : List Meaning) (i : ℕ) (d : Meaning) (e : Explained) (before all : Bool) → i < length ms →
+    e ≡ meant_by (get_or ms i d) → occurs p e.key ≡ false → (before || has_some p (map meant_by (drop i ms))) ≡ all →
+    (before || has_some p (map meant_by (drop (i + 1) ms))) ≡ all
+some_later p ms i d e before all less at is stands =
+    ap (λ (b : Bool). before || b) (sym (any_by p ms i d e false less at is)) ∙ stands

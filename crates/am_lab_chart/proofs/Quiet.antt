@@ -30,7 +30,7 @@ use Rattle.am_lab_chart.specs.Ways.{arc, arrow_title, cross_title, drawn_arrow, 
 use Rattle.am_lab_chart.specs.Rows.{fate_of, fate_x, inner, inner_text, label, label_at, label_text, labelled, line_number, line_text, link, link_line, mark}
 use Rattle.am_lab_chart.specs.Rows.{row_at, row_head, row_of, row_title, texts_of, x_of}
 use Rattle.am_lab_chart.specs.Known.{occurs}
-use Rattle.am_lab_chart.specs.Lanes.{band, dotted, end_head, end_title, end_words, head, interface, interface_lane, interface_title, interface_words, node_words, nodes, pages}
+use Rattle.am_lab_chart.specs.Lanes.{band, dotted, end_head, end_title, end_words, head, interface, interface_lane, interface_title, interface_words, node_words, nodes, pages_of}
 use Rattle.am_lab_chart.specs.Lanes.{repeated, tag_size, tag_words}
 use Rattle.am_lab_chart.specs.Legends.{Drawn, Explained, Headed, arrow_head, head_attributes, meaning, meanings, shape, style}
 use Rattle.am_lab_chart.specs.Tables.{heads}
@@ -237,7 +237,7 @@ repeated_has x told words h zero = nothing
 repeated_has x told words h (suc n) =
     subst (λ (titles : List Word). Has titles (repeated x told words (suc n))) (one_more n (joined told))
     (both (repeated x told words n) _ (repeated_has x told words h n)
-    (words_have (codes "again") x (top + 900 * suc n + 3) (codes "9") told words h))
+    (words_have (codes "again") x (top + 912 + 918 * n) (codes "9") told words h))
 
 end_words_are_texts : (lane : LaneLists) → AreTexts (end_title lane)
 end_words_are_texts lane =
@@ -250,7 +250,7 @@ end_has p left lane =
     let h = end_words_are_texts lane in
     both _ _ (words_have (codes "head") x (top - 20) (codes "9") (end_title lane) (end_words lane) h)
     (both _ _ (words_have (codes "head") x (top - 8) (tag_size lane.tag) (end_title lane) (tag_words lane) h)
-    (repeated_has x (end_title lane) (end_words lane) h (pages p)))
+    (repeated_has x (end_title lane) (end_words lane) h (pages_of p)))
 
 a_word_and_number : (word : Word) (n : ℕ) → is_text word ≡ true → AreTexts (word ∷ decimal n ∷ [])
 a_word_and_number word n h = more word _ h (a_number n _ none)
@@ -267,12 +267,12 @@ unfolding dotted
 dotted_has p x told h = under_title (codes "line") _ told [] refl refl refl h
 
 lane_has : (p : PictureLists) (x node : ℕ) →
-    Has (joined (interface_title node) ∷ joined (interface_title node) ∷ replicate (pages p) (joined (interface_title node))) (interface_lane p x node)
+    Has (joined (interface_title node) ∷ joined (interface_title node) ∷ replicate (pages_of p) (joined (interface_title node))) (interface_lane p x node)
 unfolding interface_lane
 lane_has p x node =
     let h : AreTexts (interface_title node) = a_word_and_number (codes "interface of node ") node refl in
     both _ _ (words_have (codes "head") x (top - 8) (codes "9") (interface_title node) (interface_words node) h)
-    (both _ _ (dotted_has p x (interface_title node) h) (repeated_has x (interface_title node) (interface_words node) h (pages p)))
+    (both _ _ (dotted_has p x (interface_title node) h) (repeated_has x (interface_title node) (interface_words node) h (pages_of p)))
 
 interface_has : (p : PictureLists) (left node : ℕ) → Has (interface_titles p node) (interface p left node)
 interface_has p left node =
@@ -327,15 +327,15 @@ front_has : (p : PictureLists) → Has [] (front p)
 unfolding front
 front_has p = both _ _ (description_has p.summary) (both _ _ (style_has STYLE.now) (definitions_have p))
 
-totals_have : (summary : List ℕ) → Has [] (totals summary)
+totals_have : (y : ℕ) (summary : List ℕ) → Has [] (totals y summary)
 unfolding holding
-totals_have summary = record { sound = refl; plain = refl; led = refl; titles' = refl; rows' = refl }
+totals_have y summary = record { sound = refl; plain = refl; led = refl; titles' = refl; rows' = refl }
 
 legend_has : (p : PictureLists) → Has [] (legend p)
 unfolding legend
 legend_has p =
     let some = meanings_have p 20 in
-    both _ _ (some 18 _) (both _ _ (some 42 _) (both _ _ (some 66 _) (both _ _ (some 90 _) (both _ _ (some 114 _) (totals_have p.summary)))))
+    both _ _ (some _ _) (both _ _ (some _ _) (both _ _ (some _ _) (both _ _ (some _ _) (both _ _ (some _ _) (totals_have _ p.summary)))))
 
 -- ---- the whole
 

@@ -1,5 +1,5 @@
 -- The whole picture as a tree, and as a text.
-use Rattle.std.specs.Prelude.{ℕ, List, [], ◌∷◌, codes, if◌then◌else◌}
+use Rattle.std.specs.Prelude.{ℕ, ◌-◌, List, [], ◌∷◌, codes, if◌then◌else◌}
 use Rattle.am_lab_picture.specs.Data.{PictureLists}
 use Rattle.am_lab_xml.specs.Attributes.{place}
 use Rattle.am_lab_xml.specs.Trees.{Content, Named, each, numbered, printed}
@@ -9,7 +9,7 @@ use Rattle.am_lab_chart.specs.Tables.{bar_meanings, call_meanings, call_shapes, 
 use Rattle.am_lab_chart.specs.Tables.{legend_shapes, way_meanings}
 use Rattle.am_lab_picture.specs.Layout.Layout.{has_text, height, left_edge, width}
 use Rattle.am_lab_chart.specs.Captions.{holding, joined, number, word}
-use Rattle.am_lab_chart.specs.Legends.{arrow_head, meanings, shape, style}
+use Rattle.am_lab_chart.specs.Legends.{arrow_head, below, meanings, shape, style}
 use Rattle.am_lab_chart.specs.Lanes.{end_head, nodes}
 use Rattle.am_lab_chart.specs.Bars.{lane_bars}
 use Rattle.am_lab_chart.specs.Ways.{drawn_arrow, drawn_cross}
@@ -43,16 +43,29 @@ page wide high =
 unfoldable pub front : PictureLists → Content
 front p = Contents.Both (description p.summary) (Contents.Both (style STYLE.now) (definitions p))
 
-abbrev pub totals : List ℕ → Content
-totals summary = holding (codes "text") (number (codes "x") 20 ∷ number (codes "y") 134 ∷ word (codes "class") (codes "plain") ∷ []) summary
+abbrev pub totals : ℕ → List ℕ → Content
+totals y summary = holding (codes "text") (number (codes "x") 20 ∷ number (codes "y") y ∷ word (codes "class") (codes "plain") ∷ []) summary
 
--- five lines, of what occurs in the picture, and below them the summary
+-- up to five lines, of what occurs in the picture, each below the one before it, and the summary below the last
 unfoldable pub legend : PictureLists → Content
 legend p =
     Contents.Both (meanings p 20 18 fate_meanings)
-    (Contents.Both (meanings p 20 42 bar_meanings)
-    (Contents.Both (meanings p 20 66 call_meanings)
-    (Contents.Both (meanings p 20 90 event_meanings) (Contents.Both (meanings p 20 114 way_meanings) (totals p.summary)))))
+    (Contents.Both (meanings p 20 bars bar_meanings)
+    (Contents.Both (meanings p 20 calls call_meanings)
+    (Contents.Both (meanings p 20 events event_meanings)
+    (Contents.Both (meanings p 20 ways way_meanings) (totals (below p ways way_meanings - 4) p.summary)))))
+  where
+    bars : ℕ
+    bars = below p 18 fate_meanings
+
+    calls : ℕ
+    calls = below p bars bar_meanings
+
+    events : ℕ
+    events = below p calls call_meanings
+
+    ways : ℕ
+    ways = below p events event_meanings
 
 -- what stands behind the rows
 unfoldable pub lanes_of : PictureLists → ℕ → Content

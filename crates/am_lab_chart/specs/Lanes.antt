@@ -1,12 +1,12 @@
 -- The bands of the nodes, and the heads of their lanes.
-use Rattle.std.specs.Prelude.{ℕ, zero, suc, ◌+◌, ◌-◌, ◌*◌, ◌/◌, ◌&&◌, ◌^◌, nat_lt, nat_le, List, [], ◌∷◌, codes, if◌then◌else◌}
+use Rattle.std.specs.Prelude.{ℕ, zero, suc, ◌+◌, ◌-◌, ◌*◌, ◌/◌, ◌&&◌, ◌^◌, nat_lt, nat_le, List, [], ◌∷◌, codes, length, if◌then◌else◌}
 use Rattle.std.specs.Fmt.{decimal}
 use Rattle.am_names.specs.declared.Tag.{Tag}
 use Rattle.am_office_text.specs.Words.{tag}
 use Rattle.am_lab_picture.specs.Data.{LaneLists, PictureLists}
 use Rattle.am_lab_xml.specs.Trees.{Content}
 use Rattle.am_lab_xml.specs.Trees.{Content as Contents}
-use Rattle.am_lab_picture.specs.Layout.Layout.{band_left, band_width, bottom, has_interfaces, top, x_of_end, x_of_interface}
+use Rattle.am_lab_picture.specs.Layout.Layout.{band_left, band_width, bottom, has_interfaces, pages, top, x_of_end, x_of_interface}
 use Rattle.am_lab_chart.specs.Captions.{Word, number, titled, word}
 
 -- words in the middle of a lane or a band
@@ -14,14 +14,14 @@ unfoldable pub head : Word → ℕ → ℕ → Word → List Word → List Word 
 head class x y size told words =
     titled (codes "text") (number (codes "x") x ∷ number (codes "y") y ∷ word (codes "class") class ∷ word (codes "font-size") size ∷ []) told words
 
--- so many times again, every 900 pixels: at each 50th row, or at each 300th where rows have no text
+-- so many times again, behind each page of rows: the rows of a page take 900 pixels, and the heads behind them 18
 abbrev pub repeated : ℕ → List Word → List Word → ℕ → Content
 repeated x told words zero = Contents.Nothing
 repeated x told words (suc page) =
-    Contents.Both (repeated x told words page) (head (codes "again") x (top + 900 * suc page + 3) (codes "9") told words)
+    Contents.Both (repeated x told words page) (head (codes "again") x (top + 912 + 918 * page) (codes "9") told words)
 
-abbrev pub pages : PictureLists → ℕ
-pages p = (bottom p - top) / 900
+abbrev pub pages_of : PictureLists → ℕ
+pages_of p = pages p (length p.rows)
 
 -- ---- endpoints
 
@@ -43,7 +43,7 @@ unfoldable pub end_head : PictureLists → ℕ → LaneLists → Content
 end_head p left lane =
     Contents.Both (head (codes "head") x (top - 20) (codes "9") (end_title lane) (end_words lane))
     (Contents.Both (head (codes "head") x (top - 8) (tag_size lane.tag) (end_title lane) (tag_words lane))
-    (repeated x (end_title lane) (end_words lane) (pages p)))
+    (repeated x (end_title lane) (end_words lane) (pages_of p)))
   where
     x : ℕ
     x = x_of_end p left lane.id
@@ -78,7 +78,7 @@ dotted p x told =
 unfoldable pub interface_lane : PictureLists → ℕ → ℕ → Content
 interface_lane p x node =
     Contents.Both (head (codes "head") x (top - 8) (codes "9") (interface_title node) (interface_words node))
-    (Contents.Both (dotted p x (interface_title node)) (repeated x (interface_title node) (interface_words node) (pages p)))
+    (Contents.Both (dotted p x (interface_title node)) (repeated x (interface_title node) (interface_words node) (pages_of p)))
 
 abbrev pub interface : PictureLists → ℕ → ℕ → Content
 interface p left node =

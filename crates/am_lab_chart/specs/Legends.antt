@@ -1,5 +1,6 @@
 -- The shapes of the signs, the style sheet, and the legend.
-use Rattle.std.specs.Prelude.{ℕ, ◌+◌, List, [], ◌∷◌, codes, if◌then◌else◌}
+use Rattle.std.specs.Prelude.{ℕ, ◌+◌, Bool, List, [], ◌∷◌, codes, if◌then◌else◌}
+use Rattle.std.specs.List.{list_any}
 use Rattle.am_lab_picture.specs.Data.{PictureLists}
 use Rattle.am_lab_xml.specs.Trees.{Content, Named}
 use Rattle.am_lab_xml.specs.Trees.{Content as Contents}
@@ -76,3 +77,11 @@ abbrev pub meanings : PictureLists → ℕ → ℕ → List Explained → Conten
 meanings p x y [] = Contents.Nothing
 meanings p x y (m ∷ more) =
     if occurs p m.key then Contents.Both (meaning x y m) (meanings p (x + m.width) y more) else meanings p x y more
+
+-- whether a line of the legend has any sign
+abbrev pub has_some : PictureLists → List Explained → Bool
+has_some p ms = list_any (λ (m : Explained). occurs p m.key) ms
+
+-- the height of the next line: 24 pixels below this one, but at the same height where this one would be empty
+abbrev pub below : PictureLists → ℕ → List Explained → ℕ
+below p y ms = if has_some p ms then y + 24 else y

@@ -102,7 +102,7 @@ label p left x y about to (Some text) = if has_text p then label_text p left x y
 
 -- the message that the label names: a run's is its reply
 abbrev pub labelled : Outcome → Row → Option Named
-labelled (Out.Ran message handler sends) row = row.reply
+labelled (Out.Ran handler message sends) row = row.reply
 labelled outcome row = row.about
 
 -- the line, the sign and the texts of an entry whose sign stands at `x`

@@ -11,14 +11,14 @@ use Rattle.am_lab_picture.specs.Layout.Layout.{has_interfaces}
 use Rattle.am_names.specs.declared.EndpointId.{EndpointId}
 use Rattle.am_lab_chart.specs.Bars.{level_title, place_title}
 use Rattle.am_lab_chart.specs.Captions.{Word, joined}
-use Rattle.am_lab_chart.specs.Lanes.{end_title, interface_title, node_words, pages}
+use Rattle.am_lab_chart.specs.Lanes.{end_title, interface_title, node_words, pages_of}
 use Rattle.am_lab_chart.specs.Ways.{arrow_title, cross_title}
 
 -- of an interface's head, of its lane, and of its head again
 abbrev pub interface_titles : PictureLists → ℕ → List Word
 interface_titles p node =
     if has_interfaces p.network
-    then joined (interface_title node) ∷ joined (interface_title node) ∷ replicate (pages p) (joined (interface_title node))
+    then joined (interface_title node) ∷ joined (interface_title node) ∷ replicate (pages_of p) (joined (interface_title node))
     else []
 
 -- of the heads of so many nodes, and of what their interfaces have
@@ -38,7 +38,7 @@ lane_titles lane =
 
 -- of an endpoint's two heads, and of its head again
 abbrev pub head_titles : PictureLists → LaneLists → List Word
-head_titles p lane = joined (end_title lane) ∷ joined (end_title lane) ∷ replicate (pages p) (joined (end_title lane))
+head_titles p lane = joined (end_title lane) ∷ joined (end_title lane) ∷ replicate (pages_of p) (joined (end_title lane))
 
 -- of what stands in front of the rows
 abbrev pub titles_before : PictureLists → List Word

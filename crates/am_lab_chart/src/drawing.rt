@@ -58,10 +58,10 @@ fn put_front(out: &mut Vec<u8>, picture: &Picture) -> Result<(), AllocError>
     put_definitions(out, picture)
 }
 
-fn put_totals(out: &mut Vec<u8>, summary: &[u8]) -> Result<(), AllocError>
-    ensures { OnOk result (out.new.items ≡ out.old.items ++ printed (drawing.totals summary.now)) }
+fn put_totals(out: &mut Vec<u8>, y: u64, summary: &[u8]) -> Result<(), AllocError>
+    ensures { OnOk result (out.new.items ≡ out.old.items ++ printed (drawing.totals y summary.now)) }
 {
-    let given = [Number("x", 20), Number("y", 134), Word("class", "plain")];
+    let given = [Number("x", 20), Number("y", y), Word("class", "plain")];
     put_holding(out, "text", &given, summary)
 }
 
@@ -69,12 +69,12 @@ fn put_totals(out: &mut Vec<u8>, summary: &[u8]) -> Result<(), AllocError>
 fn put_legend(out: &mut Vec<u8>, alloc: Global, picture: &Picture) -> Result<(), AllocError>
     ensures { OnOk result (out.new.items ≡ out.old.items ++ printed (drawing.legend picture.now)) }
 {
-    put_fate_meanings(out, alloc, picture)?;
-    put_bar_meanings(out, alloc, picture)?;
-    put_call_meanings(out, alloc, picture)?;
-    put_event_meanings(out, alloc, picture)?;
-    put_way_meanings(out, alloc, picture)?;
-    put_totals(out, &picture.summary)
+    let bars = put_fate_meanings(out, alloc, picture, 18)?;
+    let calls = put_bar_meanings(out, alloc, picture, bars)?;
+    let events = put_call_meanings(out, alloc, picture, calls)?;
+    let ways = put_event_meanings(out, alloc, picture, events)?;
+    let below = put_way_meanings(out, alloc, picture, ways)?;
+    put_totals(out, below.saturating_sub(4), &picture.summary)
 }
 
 #[tactic(auto, using(std::proofs::Common::append_assoc), unfolding(crate::specs::Drawing::lanes_of))]

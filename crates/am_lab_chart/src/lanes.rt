@@ -8,7 +8,7 @@ ghost use Rattle.am_office_text.specs.Pieces.{word_of};
 
 use crate::captions::put_titled;
 use am_lab_picture::layout::{
-    TOP, band_left, band_width, bottom, has_interfaces, x_of_end, x_of_interface,
+    TOP, band_left, band_width, bottom, has_interfaces, pages, x_of_end, x_of_interface,
 };
 use am_lab_picture::{Lane, Picture};
 use am_lab_xml::Attribute::{Number, Word};
@@ -40,7 +40,7 @@ fn put_head(
     put_titled(out, alloc, "text", &given, told, words)
 }
 
-// Appends a head again, every 900 pixels.
+// Appends a head again, behind each page of rows.
 fn put_repeated(
     out: &mut Vec<u8>,
     alloc: Global,
@@ -50,20 +50,12 @@ fn put_repeated(
     words: &[LinePiece],
 ) -> Result<(), AllocError>
     requires { IsDrawable picture.now }
-    ensures { OnOk result (out.new.items ≡ out.old.items ++ printed (lanes.repeated x (map word_of told.now) (map word_of words.now) (lanes.pages picture.now))) }
+    ensures { OnOk result (out.new.items ≡ out.old.items ++ printed (lanes.repeated x (map word_of told.now) (map word_of words.now) (lanes.pages_of picture.now))) }
 {
-    let pages = bottom(picture).saturating_sub(TOP) / 900;
+    let pages = pages(picture, picture.rows.len() as u64);
     for page in 0..pages {
-        put_head(
-            out,
-            alloc,
-            "again",
-            x,
-            TOP + 900 * (page + 1) + 3,
-            "9",
-            told,
-            words,
-        )?;
+        let y = TOP + 912 + 918 * page;
+        put_head(out, alloc, "again", x, y, "9", told, words)?;
     }
     Ok(())
 }

@@ -1,6 +1,6 @@
 //! The legend.
 
-ghost use Rattle.std.specs.Prelude.{◌≡◌, ◌≤◌, ◌++◌, OnOk, length, map};
+ghost use Rattle.std.specs.Prelude.{◌≡◌, ◌≤◌, ◌+◌, ◌++◌, IfOk, OnOk, length, map};
 ghost use Rattle.am_lab_chart.specs.Legends as legends;
 ghost use Rattle.am_lab_xml.specs.Trees.{printed};
 
@@ -107,19 +107,23 @@ fn put_meaning(
     put_caption(out, alloc, &given, &[LinePiece::Text(meaning.text)])
 }
 
-/// Appends a line of the legend at this height: what those of the signs stand for that occur in the picture.
+/// Appends a line of the legend at this height: what those of the signs stand for that occur in the picture. The answer
+/// is the height of the next line.
 pub(crate) fn put_meanings(
     out: &mut Vec<u8>,
     alloc: Global,
     picture: &Picture,
     y: u64,
     meanings: &[Meaning],
-) -> Result<(), AllocError>
+) -> Result<u64, AllocError>
     requires few { length meanings.now ≤ 9 }
     requires low { y ≤ 60000 }
-    ensures { OnOk result (out.new.items ≡ out.old.items ++ printed (legends.meanings picture.now 20 y (map legends.meant_by meanings.now))) }
+    ensures drawn { OnOk result (out.new.items ≡ out.old.items ++ printed (legends.meanings picture.now 20 y (map legends.meant_by meanings.now))) }
+    ensures next { IfOk result (λ next. next ≡ legends.below picture.now y (map legends.meant_by meanings.now)) }
+    ensures low { IfOk result (λ next. next ≤ y + 24) }
 {
     let mut x = 20;
+    let mut has_some = false;
     for meaning in meanings {
         let shown = explain(*meaning);
         if !occurs(picture, shown.key) {
@@ -127,6 +131,7 @@ pub(crate) fn put_meanings(
         }
         put_meaning(out, alloc, x, y, shown)?;
         x += u64::from(shown.width);
+        has_some = true;
     }
-    Ok(())
+    Ok(if has_some { y + 24 } else { y })
 }

@@ -1,6 +1,6 @@
 //! What is the same in every picture: the style sheet, the shapes of the signs, and the legend.
 
-ghost use Rattle.std.specs.Prelude.{◌≡◌, ◌++◌, OnOk};
+ghost use Rattle.std.specs.Prelude.{◌≡◌, ◌≤◌, ◌+◌, ◌++◌, IfOk, OnOk};
 ghost use Rattle.am_lab_chart.specs.Legends as legends;
 ghost use Rattle.am_lab_chart.specs.Tables as tables;
 ghost use Rattle.am_lab_xml.specs.Trees.{printed};
@@ -72,14 +72,18 @@ pub(crate) fn put_fate_meanings(
     out: &mut Vec<u8>,
     alloc: Global,
     picture: &Picture,
-) -> Result<(), AllocError>
-    ensures { OnOk result (out.new.items ≡ out.old.items ++ printed (legends.meanings picture.now 20 18 tables.fate_meanings)) }
+    y: u64,
+) -> Result<u64, AllocError>
+    requires { y ≤ 60000 }
+    ensures drawn { OnOk result (out.new.items ≡ out.old.items ++ printed (legends.meanings picture.now 20 y tables.fate_meanings)) }
+    ensures next { IfOk result (λ next. next ≡ legends.below picture.now y tables.fate_meanings) }
+    ensures low { IfOk result (λ next. next ≤ y + 24) }
 {
     put_meanings(
         out,
         alloc,
         picture,
-        18,
+        y,
         &[
             Fate("ran", "#fate-ran", 49, "ran"),
             Fate("returned", "#fate-returned", 75, "returned"),
@@ -107,14 +111,18 @@ pub(crate) fn put_bar_meanings(
     out: &mut Vec<u8>,
     alloc: Global,
     picture: &Picture,
-) -> Result<(), AllocError>
-    ensures { OnOk result (out.new.items ≡ out.old.items ++ printed (legends.meanings picture.now 20 42 tables.bar_meanings)) }
+    y: u64,
+) -> Result<u64, AllocError>
+    requires { y ≤ 60000 }
+    ensures drawn { OnOk result (out.new.items ≡ out.old.items ++ printed (legends.meanings picture.now 20 y tables.bar_meanings)) }
+    ensures next { IfOk result (λ next. next ≡ legends.below picture.now y tables.bar_meanings) }
+    ensures low { IfOk result (λ next. next ≤ y + 24) }
 {
     put_meanings(
         out,
         alloc,
         picture,
-        42,
+        y,
         &[
             Bar("frame", 153, "in a frame (its number)"),
             Bar("draining", 75, "draining"),
@@ -133,14 +141,18 @@ pub(crate) fn put_call_meanings(
     out: &mut Vec<u8>,
     alloc: Global,
     picture: &Picture,
-) -> Result<(), AllocError>
-    ensures { OnOk result (out.new.items ≡ out.old.items ++ printed (legends.meanings picture.now 20 66 tables.call_meanings)) }
+    y: u64,
+) -> Result<u64, AllocError>
+    requires { y ≤ 60000 }
+    ensures drawn { OnOk result (out.new.items ≡ out.old.items ++ printed (legends.meanings picture.now 20 y tables.call_meanings)) }
+    ensures next { IfOk result (λ next. next ≡ legends.below picture.now y tables.call_meanings) }
+    ensures low { IfOk result (λ next. next ≤ y + 24) }
 {
     put_meanings(
         out,
         alloc,
         picture,
-        66,
+        y,
         &[
             Sign("#request", 71, "request"),
             Sign("#run", 122, "run (its handler)"),
@@ -159,14 +171,18 @@ pub(crate) fn put_event_meanings(
     out: &mut Vec<u8>,
     alloc: Global,
     picture: &Picture,
-) -> Result<(), AllocError>
-    ensures { OnOk result (out.new.items ≡ out.old.items ++ printed (legends.meanings picture.now 20 90 tables.event_meanings)) }
+    y: u64,
+) -> Result<u64, AllocError>
+    requires { y ≤ 60000 }
+    ensures drawn { OnOk result (out.new.items ≡ out.old.items ++ printed (legends.meanings picture.now 20 y tables.event_meanings)) }
+    ensures next { IfOk result (λ next. next ≡ legends.below picture.now y tables.event_meanings) }
+    ensures low { IfOk result (λ next. next ≤ y + 24) }
 {
     put_meanings(
         out,
         alloc,
         picture,
-        90,
+        y,
         &[
             Sign("#done", 54, "done"),
             Sign("#nothing", 131, "nothing came of it"),
@@ -184,14 +200,18 @@ pub(crate) fn put_way_meanings(
     out: &mut Vec<u8>,
     alloc: Global,
     picture: &Picture,
-) -> Result<(), AllocError>
-    ensures { OnOk result (out.new.items ≡ out.old.items ++ printed (legends.meanings picture.now 20 114 tables.way_meanings)) }
+    y: u64,
+) -> Result<u64, AllocError>
+    requires { y ≤ 60000 }
+    ensures drawn { OnOk result (out.new.items ≡ out.old.items ++ printed (legends.meanings picture.now 20 y tables.way_meanings)) }
+    ensures next { IfOk result (λ next. next ≡ legends.below picture.now y tables.way_meanings) }
+    ensures low { IfOk result (λ next. next ≤ y + 24) }
 {
     put_meanings(
         out,
         alloc,
         picture,
-        114,
+        y,
         &[
             Way("none", 90, "request"),
             Way("9 3", 80, "reply"),

@@ -11,7 +11,7 @@ use Rattle.am_office_entries.specs.Entries.{given_up_of, received_about}
 abbrev pub about_by : Option Serial → Outcome → Option Serial
 about_by given_up (Out.Requested m) = Some m.serial
 about_by given_up (Out.Zero serial why) = Some serial
-about_by given_up (Out.Ran m handler sends) = Some m.serial
+about_by given_up (Out.Ran handler m sends) = Some m.serial
 about_by given_up (Out.Accepted m) = Some m.serial
 about_by given_up (Out.Requeued m cause used) = Some m.serial
 about_by given_up (Out.Returned m cause) = Some m.serial
@@ -30,7 +30,7 @@ sent_serial None = None
 sent_serial (Some m) = Some m.serial
 
 abbrev pub reply_by : Outcome → Option Serial
-reply_by (Out.Ran m handler sends) = sent_serial sends
+reply_by (Out.Ran handler m sends) = sent_serial sends
 reply_by outcome = None
 
 -- the reply that a run makes

@@ -7,7 +7,7 @@ mod words;
 
 pub use self::laws::rows_go_down;
 pub use self::layout::{
-    TOP, band_left, band_width, bottom, has_interfaces, has_text, left_of, width, x_of_end,
+    TOP, band_left, band_width, bottom, has_interfaces, has_text, left_of, pages, width, x_of_end,
     x_of_interface, y_of,
 };
 pub use self::signs::{

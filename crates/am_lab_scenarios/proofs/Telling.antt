@@ -54,7 +54,7 @@ told_stays journal = λ i. map (λ (m : Serial × MsgKind). record { serial = m.
 
 called_run_stays : (actor : Actor) (end : EndpointId) (call : Call) (outcome : Outcome) →
     run_in (Events.Call Outside end call) outcome ≡ run_in (Events.Call actor end call) outcome
-called_run_stays actor end Calls.Poll (Out.Ran m (Some h) r) = refl
+called_run_stays actor end Calls.Poll (Out.Ran (Some h) m r) = refl
 called_run_stays actor end Calls.Poll (Out.Zero s w) = refl
 called_run_stays actor end call outcome = refl
 

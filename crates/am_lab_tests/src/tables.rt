@@ -28,6 +28,18 @@ pub const REPORT: &str = "am2 report 1\n\
     fate 1.1 empty pending\n\
     totals ran 1 returned 0 unknown 0 unknown-but-ran 0 pending 1\n";
 
+// The same over two nodes, which has the same report.
+const TWO_NODES: &str = "am2 1\n\
+    network direct\n\
+    nodes 2\n\
+    endpoint 0 0 5\n\
+    endpoint 1 1 7\n\
+    x handler 1 1 note\n\
+    x map 0 0 1 7 1\n\
+    x request 0 0 1 10 20 30 40\n\
+    x carry 0\n\
+    x poll 1\n";
+
 // The report with another last entry, and with another fate.
 const NOT_RUN: &str = "am2 report 1\n\
     entries 5\n\
@@ -110,8 +122,19 @@ const SEGMENTS: &str = "am2 1\n\
     t0 serve 0 2\n";
 
 /// The words, a scenario and its report or another text, and the status and the text that are answered.
-pub static TOLD: [(&str, &str, &str, u8, &str); 25] = [
+pub static TOLD: [(&str, &str, &str, u8, &str); 26] = [
     ("am2_lab explain step", PATH, REPORT, 0, "check ok\n"),
+    (
+        "am2_lab json step --shiviz",
+        TWO_NODES,
+        REPORT,
+        0,
+        "n1 {\"n1\":1}\nx handler 1 1 note -> ok\n\
+        n0 {\"n0\":1}\nx map 0 0 1 7 1 -> ok\n\
+        n0 {\"n0\":2}\nx request 0 0 1 10 20 30 40 -> ok 0.1\n\
+        n0 {\"n0\":3,\"n1\":1}\nx carry 0 -> accepted 0.1\n\
+        n1 {\"n0\":3,\"n1\":2}\nx poll 1 -> ran 0.1 1 sends 1.1\n",
+    ),
     (
         "am2_lab explain step",
         PATH,

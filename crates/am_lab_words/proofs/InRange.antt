@@ -8,7 +8,7 @@ use Rattle.am_names.specs.declared.Serial.{Serial}
 use Rattle.am_scenario_types.specs.declared.parts.Form.{Form}
 use Rattle.am_scenario_types.specs.declared.parts.Form.TheVariants as Forms
 use Rattle.am_lab_words.specs.Ranges.{AreFewSeeds, AreTrials, IsInRange, IsPercent}
-use Rattle.am_lab_words.specs.Words.{are_line_words, asked_for, asks_with, asks_without, chart_half, chart_lines, chart_part, chart_whole, count_of, explain_in, faults_in, faults_of, find_of, find_with, find_without, form_of, front_of, is_closed, json_in, line_seeds, line_trials, lines_by, made_of, make_of, numbers_of, of_command, of_five_words, of_four_words, of_three_words, of_two_words, of_words, page_in, percent_by, percent_in, percent_of, points_of, printed_number, range_at, range_of, replay_of, round_of, rounds_in, scenario_in, scenario_of, schedule_by, schedule_drawn, schedule_faulty, schedule_in, schedule_of, seed_or_range, seeds_before, seeds_in, seeds_of, serial_of, shrink_by, shrink_form, shrink_in, shrink_of, shrink_plain, shrink_seeded, state_at_end, state_behind, state_between, state_by, state_change, state_line, trials_behind, trials_drawn, trials_plain, tried_with, why_in, why_message}
+use Rattle.am_lab_words.specs.Words.{are_line_words, asked_for, asks_with, asks_without, chart_half, chart_lines, chart_part, chart_whole, count_of, explain_in, faults_in, faults_of, find_of, find_with, find_without, form_of, front_of, is_closed, json_in, line_seeds, line_trials, lines_by, made_of, make_of, numbers_of, of_command, of_five_words, of_four_words, of_three_words, of_two_words, of_words, page_in, percent_by, percent_in, percent_of, points_of, printed_number, range_at, range_of, replay_of, round_of, rounds_in, scenario_in, scenario_of, schedule_by, schedule_drawn, schedule_faulty, schedule_in, schedule_of, seed_or_range, seeds_before, seeds_in, seeds_of, serial_of, shiviz_in, shiviz_of, shrink_by, shrink_form, shrink_in, shrink_of, shrink_plain, shrink_seeded, state_at_end, state_behind, state_between, state_by, state_change, state_line, trials_behind, trials_drawn, trials_plain, tried_with, why_in, why_message}
 use Rattle.am_lab_words.specs.declared.Asked.{Asked}
 use Rattle.am_lab_words.specs.declared.Asked.TheVariants as Commands
 use Rattle.am_lab_words.specs.declared.Seeds.{Seeds}
@@ -195,6 +195,14 @@ json_right : (form : Option Form) → IfOk (json_in form) IsInRange
 json_right None = tt
 json_right (Some form) = tt
 
+shiviz_in_right : (form : Option Form) → IfOk (shiviz_in form) IsInRange
+shiviz_in_right None = tt
+shiviz_in_right (Some form) = tt
+
+shiviz_right : (form option : List ℕ) → IfOk (shiviz_of form option) IsInRange
+unfolding shiviz_of
+shiviz_right form option = either _ _ (bytes_eq option (codes "--shiviz")) (shiviz_in_right (form_of form)) tt
+
 page_right : (form : Option Form) → IfOk (page_in form) IsInRange
 page_right None = tt
 page_right (Some form) = tt
@@ -327,10 +335,11 @@ three_right command word other =
     either _ _ (bytes_eq command (codes "explain")) (front_right word other)
     (either _ _ (bytes_eq command (codes "why")) (why_right (form_of word) other)
     (either _ _ (bytes_eq command (codes "chart")) (half_right (form_of word))
+    (either _ _ (bytes_eq command (codes "json")) (shiviz_right word other)
     (either _ _ (bytes_eq command (codes "scenario")) (make_right word other)
     (either _ _ (bytes_eq command (codes "state")) (behind_right (form_of word) other)
     (either _ _ (bytes_eq command (codes "faults"))
-    (faults_right (printed_number word) (percent_of other) (percents (printed_number other))) tt)))))
+    (faults_right (printed_number word) (percent_of other) (percents (printed_number other))) tt))))))
 
 four_right : (command word from to : List ℕ) → IfOk (of_four_words command word from to) IsInRange
 unfolding of_four_words

@@ -197,11 +197,18 @@ unfoldable pub schedule_faulty : List ℕ → List ℕ → List ℕ → Result A
 schedule_faulty word option percent =
     if bytes_eq option (codes "--faults") then schedule_drawn (percent_of percent) word else Err Wrongs.Form
 
--- ---- json FORM
+-- ---- json FORM, json FORM --shiviz
 
 abbrev pub json_in : Option Form → Result Asked Wrong
 json_in None = Err Wrongs.Form
 json_in (Some form) = Ok (Commands.Json form)
+
+abbrev pub shiviz_in : Option Form → Result Asked Wrong
+shiviz_in None = Err Wrongs.Form
+shiviz_in (Some form) = Ok (Commands.Shiviz form)
+
+unfoldable pub shiviz_of : List ℕ → List ℕ → Result Asked Wrong
+shiviz_of form option = if bytes_eq option (codes "--shiviz") then shiviz_in (form_of form) else Err Wrongs.Form
 
 -- ---- page FORM
 
@@ -349,6 +356,7 @@ of_three_words command word other =
     if bytes_eq command (codes "explain") then front_of word other else
     if bytes_eq command (codes "why") then why_in (form_of word) other else
     if bytes_eq command (codes "chart") then chart_half (form_of word) else
+    if bytes_eq command (codes "json") then shiviz_of word other else
     if bytes_eq command (codes "scenario") then make_of word other else
     if bytes_eq command (codes "state") then state_behind (form_of word) other else
     if bytes_eq command (codes "faults") then faults_of word other else Err Wrongs.Form

@@ -110,6 +110,8 @@ pub enum Asked {
     Schedules(Trials),
     /// `json step`, `json run`: the journal of a report of a scenario of this form as lines of JSON.
     Json(Form),
+    /// `json step --shiviz`, `json run --shiviz`: the same journal in the form that ShiViz reads.
+    Shiviz(Form),
     /// `page step`, `page run`: a page for a browser, with the journal and the picture of a report of a scenario of this form.
     Page(Form),
     /// `state step`, `state run`, each with `LINE`, with `LINE LINE2` or with neither: states of the journal of a report of a

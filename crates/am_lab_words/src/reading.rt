@@ -1,7 +1,7 @@
 //! What the words ask for, read by how many there are.
 
 ghost use Rattle.am_lab_words.specs.Ranges.{IsInRange};
-ghost use Rattle.am_lab_words.specs.Words.{asked_for, chart_half, chart_lines, chart_part, chart_whole, count_of, explain_in, front_of, json_in, lines_by, made_of, make_of, of_command, of_five_words, of_four_words, of_three_words, of_two_words, of_words, page_in, replay_of, round_of, rounds_in, scenario_in, scenario_of, serial_by, serial_in, serial_of, why_in, why_message};
+ghost use Rattle.am_lab_words.specs.Words.{asked_for, chart_half, chart_lines, chart_part, chart_whole, count_of, explain_in, front_of, json_in, lines_by, made_of, make_of, of_command, of_five_words, of_four_words, of_three_words, of_two_words, of_words, page_in, replay_of, round_of, rounds_in, scenario_in, scenario_of, serial_by, serial_in, serial_of, shiviz_in, shiviz_of, why_in, why_message};
 ghost use Rattle.std.specs.Prelude.{◌≡◌, IfOk, map, string_bytes};
 
 use crate::faults::faults_of;
@@ -22,6 +22,26 @@ fn json_in(form: Option<Form>) -> Result<Asked, Wrong>
     match form {
         Some(form) => Ok(Asked::Json(form)),
         None => Err(Wrong::Form),
+    }
+}
+
+fn shiviz_in(form: Option<Form>) -> Result<Asked, Wrong>
+    ensures { result ≡ shiviz_in form }
+{
+    match form {
+        Some(form) => Ok(Asked::Shiviz(form)),
+        None => Err(Wrong::Form),
+    }
+}
+
+#[tactic(auto, unfolding(crate::specs::Words::shiviz_of))]
+fn shiviz_of(form: &str, option: &str) -> Result<Asked, Wrong>
+    ensures { result ≡ shiviz_of form.now option.now }
+{
+    if option == "--shiviz" {
+        shiviz_in(form_of(form))
+    } else {
+        Err(Wrong::Form)
     }
 }
 
@@ -282,6 +302,7 @@ fn of_three_words(command: &str, word: &str, other: &str) -> Result<Asked, Wrong
         "explain" => front_of(word, other),
         "why" => why_in(form_of(word), other),
         "chart" => chart_half(form_of(word)),
+        "json" => shiviz_of(word, other),
         "scenario" => make_of(word, other),
         "state" => state_behind(form_of(word), other),
         "faults" => faults_of(word, other),

@@ -85,9 +85,10 @@ bin/am2_lab schedule 0..100 --faults 20 < examples/turns-clients.am2",
 
 const JSON: Shown = Shown {
     name: "json",
-    about: "Prints the journal of a report as lines of JSON, an object for each entry",
-    usage: "am2_lab json <step|run>",
-    more: "Standard input is a scenario of this form and, behind it, its report:\n\n  \
+    about: "Prints the journal of a report as lines of JSON, an object for each entry, or as ShiViz reads it",
+    usage: "am2_lab json <step|run> [--shiviz]",
+    more: "With --shiviz two lines for each entry: its node with a clock, and the entry's text. \
+Standard input is a scenario of this form and, behind it, its report:\n\n  \
 cat examples/first.am2 examples/first.out | bin/am2_lab json step > first.jsonl",
     example: "cat examples/first.am2 examples/first.out | bin/am2_lab json step > first.jsonl",
 };

@@ -137,8 +137,8 @@ called_moves s (Calls.Request index handler words) (Out.Requested m) = record {
   comes = λ v. omega (arith, both_appended v m 0 s.body.requests s.body.replies (is_request m));
 }
 called_moves s Calls.Poll (Out.Zero serial why) = record { rest = s.body; leaves = λ v. omega arith; comes = λ v. omega arith }
-called_moves s Calls.Poll (Out.Ran m handler None) = record { rest = s.body; leaves = λ v. omega arith; comes = λ v. omega arith }
-called_moves s Calls.Poll (Out.Ran m handler (Some reply)) = record {
+called_moves s Calls.Poll (Out.Ran handler m None) = record { rest = s.body; leaves = λ v. omega arith; comes = λ v. omega arith }
+called_moves s Calls.Poll (Out.Ran handler m (Some reply)) = record {
   rest = s.body;
   leaves = λ v. omega arith;
   comes = λ v. omega (arith, both_appended v reply 0 s.body.requests s.body.replies (is_request reply));

@@ -104,7 +104,7 @@ poll_asked : (layout : Layout) (past : List Entry) → KnowsCalls layout past �
 poll_asked layout past k e (notice ∷ notices) = tt
 poll_asked layout past k e [] = by_found (find is_reply (state_of layout past e).body.received)
   where
-    by_full : (m : Message) (full : Bool) → IsAcceptedSo layout past e Calls.Poll (if full then Out.Blocked else Out.Ran m (Some m.handler)
+    by_full : (m : Message) (full : Bool) → IsAcceptedSo layout past e Calls.Poll (if full then Out.Blocked else Out.Ran (Some m.handler) m
         (Some (answer e (state_of layout past e) m (entry_at (state_of layout past e).body.handlers m.handler))))
     by_full m true = tt
     by_full m false = reply_asked layout past k e m (entry_at (state_of layout past e).body.handlers m.handler)

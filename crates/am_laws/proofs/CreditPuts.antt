@@ -51,7 +51,7 @@ about_le : (layout : Layout) (past : List Entry) (s : Serial) (event : Event) (o
 about_le layout past s (Events.Call actor end (Calls.Request index handler words)) (Out.Requested m) asked one' =
     let none : m.about ≡ None = no_about layout past end index handler words m asked in
     omega (arith, ap (λ (w : Option Serial). bit (is_serial s w)) none)
-about_le layout past s (Events.Call actor end Calls.Poll) (Out.Ran m handler (Some reply)) asked one' =
+about_le layout past s (Events.Call actor end Calls.Poll) (Out.Ran handler m (Some reply)) asked one' =
     omega (arith, ap (λ (w : Option Serial). bit (is_serial s w)) one'.2)
 about_le layout past s event o asked one' = omega arith
 

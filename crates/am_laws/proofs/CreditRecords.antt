@@ -162,7 +162,7 @@ stops event o = None
 
 -- the request whose hold ends here
 abbrev pub ended_by : Call → Outcome → Option Serial
-ended_by Calls.Poll (Out.Ran m handler sends) = m.about
+ended_by Calls.Poll (Out.Ran handler m sends) = m.about
 ended_by (Calls.GiveUp serial) Out.Done = Some serial
 ended_by call o = None
 
@@ -175,7 +175,7 @@ ended event o = None
 
 pub ends_is : (s : Serial) (event : Event) (o : Outcome) → (passes (is_about s) (run_in event o) || is_serial s (returned_in event o) || is_serial s
     (unknown_in event o) || is_serial s (given_up_in event o)) ≡ is_serial s (ended event o)
-ends_is s (Events.Call actor end Calls.Poll) (Out.Ran m handler sends) = or-false _ ∙ or-false _ ∙ or-false (is_about s m)
+ends_is s (Events.Call actor end Calls.Poll) (Out.Ran handler m sends) = or-false _ ∙ or-false _ ∙ or-false (is_about s m)
 ends_is s (Events.Call actor end call) o = refl
 ends_is s (Events.Carry end) (Out.Returned m cause) = or-false _ ∙ or-false (same_serial s m.serial)
 ends_is s (Events.Carry end) o = refl
@@ -195,7 +195,7 @@ pub record CanEnd (e : EndpointId) (event : Event) (o : Outcome) (xs : List Awai
   pub few : (t : Serial) → records_of t xs ≤ 1
   pub waits : (t : Serial) → stops event o ≡ Some t → AllAre (λ (a : Awaited). same_serial t a.serial ≡ true → a.arrived ≡ false) xs
   pub request : (actor : Actor) (end : EndpointId) (m reply : Message) (handler : Option ℕ) → event ≡ Events.Call actor end Calls.Poll →
-      o ≡ Out.Ran m handler (Some reply) → m.about ≡ None
+      o ≡ Out.Ran handler m (Some reply) → m.about ≡ None
   pub away : (end : EndpointId) (m : Message) (cause : Cause) → event ≡ Events.Carry end → o ≡ Out.Returned m cause → same_end e end ≡ false →
       records_of m.serial xs ≡ 0
 
@@ -228,8 +228,8 @@ called_where p e st actor end (Calls.Request index handler words) (Out.Requested
       but_none p st.body.awaited,
     )
 called_where p e st actor end Calls.Poll (Out.Zero serial why) k = omega (arith, but_none p st.body.awaited)
-called_where p e st actor end Calls.Poll (Out.Ran m handler None) k = omega (arith, settled_where p m.about st.body.awaited k.few)
-called_where p e st actor end Calls.Poll (Out.Ran m handler (Some reply)) k = omega (
+called_where p e st actor end Calls.Poll (Out.Ran handler m None) k = omega (arith, settled_where p m.about st.body.awaited k.few)
+called_where p e st actor end Calls.Poll (Out.Ran handler m (Some reply)) k = omega (
   arith,
   but_none p st.body.awaited,
   ap (λ (w : Option Serial). records_where (but p w) st.body.awaited) (k.request actor end m reply handler refl refl),

@@ -181,7 +181,7 @@ new_reply layout past (Events.Call actor end (Calls.Request index handler words)
     let same : n ≡ m = cc in
     let none : m.about ≡ None = subst (λ (w : Message). w.about ≡ None) same (no_about layout past end index handler words n asked) in
     let both : None ≡ Some s = sym none ∙ about in absurd (cc)
-new_reply layout past (Events.Call actor end Calls.Poll) (Out.Ran n handler (Some reply)) asked runs m is s about =
+new_reply layout past (Events.Call actor end Calls.Poll) (Out.Ran handler n (Some reply)) asked runs m is s about =
     let same : reply ≡ m = cc in
     let of : reply.about ≡ Some s = ap (λ (w : Message). w.about) same ∙ about in
     let both : Some n.serial ≡ Some s = sym asked.about ∙ of in
@@ -235,12 +235,12 @@ called_records R st (Calls.Request index handler words) (Out.Requested m) h new 
   arrived = false;
 }) h (new index handler words m refl refl)
 called_records R st Calls.Poll (Out.Zero serial why) h new = h
-called_records R st Calls.Poll (Out.Ran m handler None) h new = by_about m.about
+called_records R st Calls.Poll (Out.Ran handler m None) h new = by_about m.about
   where
     by_about : (about : Option Serial) → AllAre R (without_record about st.body.awaited)
     by_about None = h
     by_about (Some t) = all_without R (is_of t) st.body.awaited h
-called_records R st Calls.Poll (Out.Ran m handler (Some reply)) h new = h
+called_records R st Calls.Poll (Out.Ran handler m (Some reply)) h new = h
 called_records R st (Calls.SetTag tag) Out.Done h new = h
 called_records R st (Calls.Map index name tag credits) Out.Done h new = h
 called_records R st (Calls.Unmap index) Out.Done h new = h
@@ -351,8 +351,8 @@ called_held : (pool : Option ℕ) (end : EndpointId) (st : State) (c : Call) (o 
     (((called st c o).body.tag ≡ st.body.tag) × ((called st c o).head.closed ≡ st.head.closed)) ⊎ ((called st c o).body.awaited ≡ [])
 called_held pool end st (Calls.Request at handler words) (Out.Requested m) fits = inl (refl, refl)
 called_held pool end st Calls.Poll (Out.Zero serial why) fits = inl (refl, refl)
-called_held pool end st Calls.Poll (Out.Ran m handler None) fits = inl (refl, refl)
-called_held pool end st Calls.Poll (Out.Ran m handler (Some reply)) fits = inl (refl, refl)
+called_held pool end st Calls.Poll (Out.Ran handler m None) fits = inl (refl, refl)
+called_held pool end st Calls.Poll (Out.Ran handler m (Some reply)) fits = inl (refl, refl)
 called_held pool end st (Calls.SetTag tag) Out.Done fits = inr (idle_awaited st (unless_busy st st.head.closed (is_idle st.body) refl (sym fits)))
 called_held pool end st (Calls.Map at name tag credits) Out.Done fits = inl (refl, refl)
 called_held pool end st (Calls.Unmap at) Out.Done fits = inl (refl, refl)

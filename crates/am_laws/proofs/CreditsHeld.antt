@@ -334,7 +334,7 @@ ending layout past x h may t is = by_event x.event x.outcome refl refl is
         (ap (λ (b : Bool). b || false) (same_end-refl u.source))
 
     by_event : (event : Event) (o : Outcome) → x.event ≡ event → x.outcome ≡ o → ended event o ≡ Some t → IsEnding past x t
-    by_event (Events.Call actor end Calls.Poll) (Out.Ran m handler sends) ev oc e =
+    by_event (Events.Call actor end Calls.Poll) (Out.Ran handler m sends) ev oc e =
         run_ends layout past x h may actor end Calls.Poll ev m (λ i. run_in (ev i) (oc i)) t e
     by_event (Events.Call actor end (Calls.GiveUp serial)) Out.Done ev oc e = given_ends layout past x h may t ((λ i. given_up_in (ev i) (oc i)) ∙ e)
     by_event (Events.Call actor end call) o ev oc e = absurd (cc)
@@ -388,7 +388,7 @@ can_end layout past x k may e =
         absurd (omega (arith, low, none))
 
     by_about : (actor : Actor) (end : EndpointId) (m reply : Message) (handler : Option ℕ) → x.event ≡ Events.Call actor end Calls.Poll →
-        x.outcome ≡ Out.Ran m handler (Some reply) → (w : Option Serial) → m.about ≡ w → m.about ≡ None
+        x.outcome ≡ Out.Ran handler m (Some reply) → (w : Option Serial) → m.about ≡ w → m.about ≡ None
     by_about actor end m reply handler ev is None about = about
     by_about actor end m reply handler ev is (Some s) about =
         let one' : SendsOne x.event x.outcome = subst (λ (o : Outcome). SendsOne x.event o) (sym may.outcome) (event_one layout past x.event) in

@@ -63,8 +63,8 @@ landing s t b = omega (arith, landed_weighs (one s) t b.in_flight, found_le s t 
 pub called_flown : (v : Weight) (s : State) (c : Call) (o : Outcome) → flight_weight v (called s c o).body.in_flight ≡ flight_weight v s.body.in_flight
 called_flown v s (Calls.Request index handler words) (Out.Requested m) = refl
 called_flown v s Calls.Poll (Out.Zero serial why) = refl
-called_flown v s Calls.Poll (Out.Ran m handler None) = refl
-called_flown v s Calls.Poll (Out.Ran m handler (Some reply)) = refl
+called_flown v s Calls.Poll (Out.Ran handler m None) = refl
+called_flown v s Calls.Poll (Out.Ran handler m (Some reply)) = refl
 called_flown v s (Calls.SetTag tag) Out.Done = refl
 called_flown v s (Calls.Map index name tag credits) Out.Done = refl
 called_flown v s (Calls.Unmap index) Out.Done = refl

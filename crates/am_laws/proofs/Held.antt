@@ -79,8 +79,8 @@ called_steady : (pool : Option ℕ) (end : EndpointId) (s : State) (c : Call) (o
     (called s c o).body.tag ≡ s.body.tag ⊎ ((called s c o).body.received ≡ [])
 called_steady pool end s (Calls.Request at handler words) (Out.Requested m) fits = inl refl
 called_steady pool end s Calls.Poll (Out.Zero serial why) fits = inl refl
-called_steady pool end s Calls.Poll (Out.Ran m handler None) fits = inl refl
-called_steady pool end s Calls.Poll (Out.Ran m handler (Some reply)) fits = inl refl
+called_steady pool end s Calls.Poll (Out.Ran handler m None) fits = inl refl
+called_steady pool end s Calls.Poll (Out.Ran handler m (Some reply)) fits = inl refl
 called_steady pool end s (Calls.SetTag tag) Out.Done fits = inr (idle_received s (unless_busy s s.head.closed (is_idle s.body) refl (sym fits)))
 called_steady pool end s (Calls.Map at name tag credits) Out.Done fits = inl refl
 called_steady pool end s (Calls.Unmap at) Out.Done fits = inl refl
@@ -101,8 +101,8 @@ ReceivedAre R s = AllAre R s.body.received
 called_held : (R : Message → Type 0) (s : State) (c : Call) (o : Outcome) → ReceivedAre R s → ReceivedAre R (called s c o)
 called_held R s (Calls.Request at handler words) (Out.Requested m) h = h
 called_held R s Calls.Poll (Out.Zero serial why) h = h
-called_held R s Calls.Poll (Out.Ran m handler None) h = all_without R is_reply s.body.received h
-called_held R s Calls.Poll (Out.Ran m handler (Some reply)) h = all_tail R s.body.received h
+called_held R s Calls.Poll (Out.Ran handler m None) h = all_without R is_reply s.body.received h
+called_held R s Calls.Poll (Out.Ran handler m (Some reply)) h = all_tail R s.body.received h
 called_held R s (Calls.SetTag tag) Out.Done h = h
 called_held R s (Calls.Map at name tag credits) Out.Done h = h
 called_held R s (Calls.Unmap at) Out.Done h = h
@@ -189,7 +189,7 @@ answers_is (x ∷ xs) m e = by_test (is_reply x) refl e (answers_is xs m)
     by_test true is h more = let same : x ≡ m = cc in subst (λ (w : Message). is_reply w ≡ true) same is
     by_test false is h more = more h
 
-own_handler : (s : State) (m : Message) (b : Bool) → is_reply m ≡ true → RunsOwnHandler (Out.Ran m (if b then Some m.handler else None) None)
+own_handler : (s : State) (m : Message) (b : Bool) → is_reply m ≡ true → RunsOwnHandler (Out.Ran (if b then Some m.handler else None) m None)
 own_handler s m true is = refl
 own_handler s m false is = is
 
@@ -198,7 +198,7 @@ pub polled_run : (R : Message → Type 0) (e : EndpointId) (s : State) (m : Mess
 polled_run R e s m h (notice ∷ notices) is = absurd (cc)
 polled_run R e s m h [] is = by_found (find is_reply s.body.received) refl is
   where
-    by_full : (n : Message) (full : Bool) → R n → let o = if full then Out.Blocked else Out.Ran n (Some n.handler)
+    by_full : (n : Message) (full : Bool) → R n → let o = if full then Out.Blocked else Out.Ran (Some n.handler) n
         (Some (answer e s n (entry_at s.body.handlers n.handler))) in run_by Calls.Poll o ≡ Some m →
         IsRunOf R m o
     by_full n true r e = absurd (cc)

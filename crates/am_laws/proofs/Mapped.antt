@@ -88,8 +88,8 @@ called_mapped : (e : EndpointId) (s : State) (c : Call) (o : Outcome) (actor : A
     (entry_at s.body.mapped index)
 called_mapped e s (Calls.Request at handler words) (Out.Requested m) actor end index on size low = refl
 called_mapped e s Calls.Poll (Out.Zero serial why) actor end index on size low = refl
-called_mapped e s Calls.Poll (Out.Ran m handler None) actor end index on size low = refl
-called_mapped e s Calls.Poll (Out.Ran m handler (Some reply)) actor end index on size low = refl
+called_mapped e s Calls.Poll (Out.Ran handler m None) actor end index on size low = refl
+called_mapped e s Calls.Poll (Out.Ran handler m (Some reply)) actor end index on size low = refl
 called_mapped e s (Calls.SetTag tag) Out.Done actor end index on size low = refl
 called_mapped e s (Calls.Map at name tag credits) Out.Done actor end index on size low =
     rw on (set_entry s.body.mapped at index (Some (record { name = name; tag = tag; credits = credits })) (omega (arith, size, low)))
@@ -102,8 +102,8 @@ called_mapped e s c o actor end index on size low = refl
 pub called_size : (s : State) (c : Call) (o : Outcome) → length (called s c o).body.mapped ≡ length s.body.mapped
 called_size s (Calls.Request at handler words) (Out.Requested m) = refl
 called_size s Calls.Poll (Out.Zero serial why) = refl
-called_size s Calls.Poll (Out.Ran m handler None) = refl
-called_size s Calls.Poll (Out.Ran m handler (Some reply)) = refl
+called_size s Calls.Poll (Out.Ran handler m None) = refl
+called_size s Calls.Poll (Out.Ran handler m (Some reply)) = refl
 called_size s (Calls.SetTag tag) Out.Done = refl
 called_size s (Calls.Map at name tag credits) Out.Done = length-set s.body.mapped at (Some (record { name = name; tag = tag; credits = credits }))
 called_size s (Calls.Unmap at) Out.Done = length-set s.body.mapped at None

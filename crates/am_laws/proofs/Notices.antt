@@ -65,7 +65,7 @@ polled_zero e st serial why (n ∷ rest) at is =
     record { notice = n; rest = rest; at = at; serial' = one'; why' = two }
 polled_zero e st serial why [] at is = absurd (by_found (find is_reply st.body.received) is)
   where
-    by_full : (m : Message) (full : Bool) → (if full then Out.Blocked else Out.Ran m (Some m.handler)
+    by_full : (m : Message) (full : Bool) → (if full then Out.Blocked else Out.Ran (Some m.handler) m
         (Some (answer e st m (entry_at st.body.handlers m.handler)))) ≡ Out.Zero serial why → ⊥
     by_full m true h = cc
     by_full m false h = cc
@@ -91,8 +91,8 @@ NewAre P e st event o = Unit {0}
 called_notices : (P : Notice → Type 0) (st : State) (c : Call) (o : Outcome) → AllAre P st.body.notices → AllAre P (called st c o).body.notices
 called_notices P st (Calls.Request index handler words) (Out.Requested m) h = h
 called_notices P st Calls.Poll (Out.Zero serial why) h = all_tail P st.body.notices h
-called_notices P st Calls.Poll (Out.Ran m handler None) h = h
-called_notices P st Calls.Poll (Out.Ran m handler (Some reply)) h = h
+called_notices P st Calls.Poll (Out.Ran handler m None) h = h
+called_notices P st Calls.Poll (Out.Ran handler m (Some reply)) h = h
 called_notices P st (Calls.SetTag tag) Out.Done h = h
 called_notices P st (Calls.Map index name tag credits) Out.Done h = h
 called_notices P st (Calls.Unmap index) Out.Done h = h
@@ -231,8 +231,8 @@ called_count s st Calls.Poll (Out.Zero serial why) = fewer st.body.notices
     fewer : (notices : List Notice) → in_notices s (drop 1 notices) ≤ in_notices s notices
     fewer [] = omega arith
     fewer (n ∷ notices) = omega (arith, sum_by-cons (λ (y : Notice). bit (has_serial s y.message)) n notices)
-called_count s st Calls.Poll (Out.Ran m handler None) = omega arith
-called_count s st Calls.Poll (Out.Ran m handler (Some reply)) = omega arith
+called_count s st Calls.Poll (Out.Ran handler m None) = omega arith
+called_count s st Calls.Poll (Out.Ran handler m (Some reply)) = omega arith
 called_count s st (Calls.SetTag tag) Out.Done = omega arith
 called_count s st (Calls.Map index name tag credits) Out.Done = omega arith
 called_count s st (Calls.Unmap index) Out.Done = omega arith

@@ -219,10 +219,10 @@ called_credited : (end : EndpointId) (st : State) (c : Call) (o : Outcome) → o
 called_credited end st (Calls.Request at handler words) (Out.Requested m) fits size h = λ index. let k = had_credit end st at handler words m fits in
     one_more at index st m.serial k.0 k.1 k.2 (h index)
 called_credited end st Calls.Poll (Out.Zero serial why) fits size h = h
-called_credited end st Calls.Poll (Out.Ran m handler None) fits size h =
+called_credited end st Calls.Poll (Out.Ran handler m None) fits size h =
     λ index. fewer (entry_at st.body.mapped index) (records_at st.body index) (records_of index (without_record m.about st.body.awaited))
     (settled_count index m.about st.body.awaited) (h index)
-called_credited end st Calls.Poll (Out.Ran m handler (Some reply)) fits size h = h
+called_credited end st Calls.Poll (Out.Ran handler m (Some reply)) fits size h = h
 called_credited end st (Calls.SetTag tag) Out.Done fits size h = h
 called_credited end st (Calls.Map at name tag credits) Out.Done fits size h =
     let none : map_refusal None st at credits ≡ None = unless_done (map_refusal None st at credits) fits in

@@ -51,7 +51,7 @@ poll_one e st (notice ∷ notices) = tt
 poll_one e st [] = by_found (find is_reply st.body.received) refl
   where
     by_full : (m : Message) (full : Bool) → is_request m ≡ true →
-        SendsOneReply Calls.Poll (if full then Out.Blocked else Out.Ran m (Some m.handler) (Some (answer e st m (entry_at st.body.handlers m.handler))))
+        SendsOneReply Calls.Poll (if full then Out.Blocked else Out.Ran (Some m.handler) m (Some (answer e st m (entry_at st.body.handlers m.handler))))
     by_full m true is = tt
     by_full m false is = let a = answer_one e st m (entry_at st.body.handlers m.handler) in (is, a.0, a.1)
 

@@ -128,8 +128,8 @@ called_are P s (Calls.Request index handler words) (Out.Requested m) h p =
       flights = h.flights;
     }
 called_are P s Calls.Poll (Out.Zero serial why) h p = record { requests = h.requests; replies = h.replies; flights = h.flights }
-called_are P s Calls.Poll (Out.Ran m handler None) h p = record { requests = h.requests; replies = h.replies; flights = h.flights }
-called_are P s Calls.Poll (Out.Ran m handler (Some reply)) h p =
+called_are P s Calls.Poll (Out.Ran handler m None) h p = record { requests = h.requests; replies = h.replies; flights = h.flights }
+called_are P s Calls.Poll (Out.Ran handler m (Some reply)) h p =
     record {
       requests = appended_are P (is_request reply) reply 0 s.body.requests h.requests (p reply refl);
       replies = appended_are P (is_reply reply) reply 0 s.body.replies h.replies (p reply refl);

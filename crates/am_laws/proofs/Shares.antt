@@ -261,9 +261,9 @@ called_empty : (pool : Option ℕ) (end : EndpointId) (st : State) (c : Call) (o
 called_empty pool end st (Calls.Request at handler words) (Out.Requested m) fits size h = let k = had_credit pool end st at handler words m fits in
     requested_empty at m.serial st.body k.mapping k.mapped h
 called_empty pool end st Calls.Poll (Out.Zero serial why) fits size h = h
-called_empty pool end st Calls.Poll (Out.Ran m handler None) fits size h =
-    fewer_empty st.body (called st Calls.Poll (Out.Ran m handler None)).body refl (λ i. settled_count i m.about st.body.awaited) h
-called_empty pool end st Calls.Poll (Out.Ran m handler (Some reply)) fits size h = h
+called_empty pool end st Calls.Poll (Out.Ran handler m None) fits size h =
+    fewer_empty st.body (called st Calls.Poll (Out.Ran handler m None)).body refl (λ i. settled_count i m.about st.body.awaited) h
+called_empty pool end st Calls.Poll (Out.Ran handler m (Some reply)) fits size h = h
 called_empty pool end st (Calls.SetTag tag) Out.Done fits size h = h
 called_empty pool end st (Calls.Map at name tag credits) Out.Done fits size h =
     let told = map_told pool st at credits (unless_done (map_refusal pool st at credits) fits) in
@@ -286,9 +286,9 @@ called_pooled pool end st (Calls.Request at handler words) (Out.Requested m) fit
     let k = had_credit (Some pool) end st at handler words m fits in
     record { over = requested_over pool at m.serial st.body k.mapping size k.mapped k.credit p.over; sum = p.sum }
 called_pooled pool end st Calls.Poll (Out.Zero serial why) fits size h p = record { over = p.over; sum = p.sum }
-called_pooled pool end st Calls.Poll (Out.Ran m handler None) fits size h p =
-    fewer_pooled pool st.body (called st Calls.Poll (Out.Ran m handler None)).body refl (λ i. settled_count i m.about st.body.awaited) p
-called_pooled pool end st Calls.Poll (Out.Ran m handler (Some reply)) fits size h p = record { over = p.over; sum = p.sum }
+called_pooled pool end st Calls.Poll (Out.Ran handler m None) fits size h p =
+    fewer_pooled pool st.body (called st Calls.Poll (Out.Ran handler m None)).body refl (λ i. settled_count i m.about st.body.awaited) p
+called_pooled pool end st Calls.Poll (Out.Ran handler m (Some reply)) fits size h p = record { over = p.over; sum = p.sum }
 called_pooled pool end st (Calls.SetTag tag) Out.Done fits size h p = record { over = p.over; sum = p.sum }
 called_pooled pool end st (Calls.Map at name tag credits) Out.Done fits size h p =
     let told = map_told (Some pool) st at credits (unless_done (map_refusal (Some pool) st at credits) fits) in

@@ -86,8 +86,8 @@ marked_all R (Some t) (a ∷ xs) f h = (f t refl a h.0, marked_all R (Some t) xs
 called_flights : (R : Flying → Type 0) (st : State) (c : Call) (o : Outcome) → AllAre R st.body.in_flight → AllAre R (called st c o).body.in_flight
 called_flights R st (Calls.Request index handler words) (Out.Requested m) h = h
 called_flights R st Calls.Poll (Out.Zero serial why) h = h
-called_flights R st Calls.Poll (Out.Ran m handler None) h = h
-called_flights R st Calls.Poll (Out.Ran m handler (Some reply)) h = h
+called_flights R st Calls.Poll (Out.Ran handler m None) h = h
+called_flights R st Calls.Poll (Out.Ran handler m (Some reply)) h = h
 called_flights R st (Calls.SetTag tag) Out.Done h = h
 called_flights R st (Calls.Map index name tag credits) Out.Done h = h
 called_flights R st (Calls.Unmap index) Out.Done h = h

@@ -110,8 +110,8 @@ called_waits : (s : Serial) (st : State) (actor : Actor) (end : EndpointId) (c :
 called_waits s st actor end (Calls.Request index handler words) (Out.Requested m) g r h =
     waits_push s st.body.awaited (record { index = index; serial = m.serial; arrived = false }) h
 called_waits s st actor end Calls.Poll (Out.Zero serial why) g r h = h
-called_waits s st actor end Calls.Poll (Out.Ran m handler None) g r h = waits_settled s m.about st.body.awaited (r m refl) h
-called_waits s st actor end Calls.Poll (Out.Ran m handler (Some reply)) g r h = h
+called_waits s st actor end Calls.Poll (Out.Ran handler m None) g r h = waits_settled s m.about st.body.awaited (r m refl) h
+called_waits s st actor end Calls.Poll (Out.Ran handler m (Some reply)) g r h = h
 called_waits s st actor end (Calls.SetTag tag) Out.Done g r h = h
 called_waits s st actor end (Calls.Map index name tag credits) Out.Done g r h = h
 called_waits s st actor end (Calls.Unmap index) Out.Done g r h = h
@@ -230,7 +230,7 @@ called_new s st (Calls.Request index handler words) (Out.Requested m) one h =
     let mine : same_serial s m.serial ≡ true = (and_parts (has_serial s m) (is_request m) h).0 in
     list_any-append (waits_for s) st.body.awaited (record { index = index; serial = m.serial; arrived = false } ∷ [])
     ∙ or_right (waits s st.body.awaited) ((same_serial s m.serial && true) || false) (rw mine refl)
-called_new s st Calls.Poll (Out.Ran m handler (Some reply)) one h =
+called_new s st Calls.Poll (Out.Ran handler m (Some reply)) one h =
     let kind : is_request reply ≡ true = (and_parts (has_serial s reply) (is_request reply) h).1 in
     let answer : is_reply reply ≡ true = one.1 in
     absurd (true≢false (sym answer ∙ rw kind refl))

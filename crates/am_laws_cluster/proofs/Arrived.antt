@@ -226,9 +226,9 @@ called_arrived : (s : Serial) (e : EndpointId) (st : State) (actor : Actor) (end
     arrived_of s (called st c o).body.awaited + bit (passes (is_about s) (run_by c o)) ≡ arrived_of s st.body.awaited
 called_arrived s e st actor end (Calls.Request index handler words) (Out.Requested m) on k = omega (arith, new_arrived s st.body.awaited index m.serial)
 called_arrived s e st actor end Calls.Poll (Out.Zero serial why) on k = omega arith
-called_arrived s e st actor end Calls.Poll (Out.Ran m handler None) on k =
+called_arrived s e st actor end Calls.Poll (Out.Ran handler m None) on k =
     reply_settles s m.about st.body.awaited k.ends.few (λ t is. k.runs m t (ap (λ (b : Bool). if b then Some m else None) on) is)
-called_arrived s e st actor end Calls.Poll (Out.Ran m handler (Some reply)) on k = omega (
+called_arrived s e st actor end Calls.Poll (Out.Ran handler m (Some reply)) on k = omega (
   arith,
   ap (λ (w : Option Serial). bit (is_serial s w)) (k.ends.request actor end m reply handler refl refl),
 )

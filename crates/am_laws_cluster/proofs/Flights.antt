@@ -86,8 +86,8 @@ idle_empty s h =
 called_closed : (s : State) (c : Call) (o : Outcome) → (called s c o).head.closed ≡ true → (s.head.closed ≡ true) ⊎ ((c ≡ Calls.Close) × (o ≡ Out.Done))
 called_closed s (Calls.Request index handler words) (Out.Requested m) h = inl h
 called_closed s Calls.Poll (Out.Zero serial why) h = inl h
-called_closed s Calls.Poll (Out.Ran m handler None) h = inl h
-called_closed s Calls.Poll (Out.Ran m handler (Some reply)) h = inl h
+called_closed s Calls.Poll (Out.Ran handler m None) h = inl h
+called_closed s Calls.Poll (Out.Ran handler m (Some reply)) h = inl h
 called_closed s (Calls.SetTag tag) Out.Done h = inl h
 called_closed s (Calls.Map index name tag credits) Out.Done h = inl h
 called_closed s (Calls.Unmap index) Out.Done h = inl h
@@ -150,8 +150,8 @@ called_notices s Calls.Poll (Out.Zero serial why) = fewer s.body.notices
     fewer : (notices : List Notice) → back_of any (drop 1 notices) ≤ back_of any notices
     fewer [] = omega arith
     fewer (n ∷ notices) = omega (arith, sum_by-cons (λ (y : Notice). 1) n notices)
-called_notices s Calls.Poll (Out.Ran m handler None) = omega arith
-called_notices s Calls.Poll (Out.Ran m handler (Some reply)) = omega arith
+called_notices s Calls.Poll (Out.Ran handler m None) = omega arith
+called_notices s Calls.Poll (Out.Ran handler m (Some reply)) = omega arith
 called_notices s (Calls.SetTag tag) Out.Done = omega arith
 called_notices s (Calls.Map index name tag credits) Out.Done = omega arith
 called_notices s (Calls.Unmap index) Out.Done = omega arith
@@ -165,8 +165,8 @@ accepts_none : (pool : Option ℕ) (end : EndpointId) (s : State) (c : Call) (o 
     weight any (run_by c o) ≡ 0 → one_weight (passing any) (newly (accepted_by c o)) ≡ 0
 accepts_none pool end s (Calls.Request index handler words) (Out.Requested m) fits closed none =
     absurd (true≢false (sym closed ∙ (made pool end s index handler words m fits).opened))
-accepts_none pool end s Calls.Poll (Out.Ran m handler None) fits closed none = refl
-accepts_none pool end s Calls.Poll (Out.Ran m handler (Some reply)) fits closed none = absurd (omega (arith, none))
+accepts_none pool end s Calls.Poll (Out.Ran handler m None) fits closed none = refl
+accepts_none pool end s Calls.Poll (Out.Ran handler m (Some reply)) fits closed none = absurd (omega (arith, none))
 accepts_none pool end s Calls.Poll (Out.Zero serial why) fits closed none = refl
 accepts_none pool end s c o fits closed none = refl
 

@@ -29,8 +29,8 @@ at_direct s = is_direct s.head.place
 called_stays : (s : State) (c : Call) (o : Outcome) → at_direct (called s c o) ≡ at_direct s
 called_stays s (Calls.Request index handler words) (Out.Requested m) = refl
 called_stays s Calls.Poll (Out.Zero serial why) = refl
-called_stays s Calls.Poll (Out.Ran m handler None) = refl
-called_stays s Calls.Poll (Out.Ran m handler (Some reply)) = refl
+called_stays s Calls.Poll (Out.Ran handler m None) = refl
+called_stays s Calls.Poll (Out.Ran handler m (Some reply)) = refl
 called_stays s (Calls.SetTag tag) Out.Done = refl
 called_stays s (Calls.Map index name tag credits) Out.Done = refl
 called_stays s (Calls.Unmap index) Out.Done = refl

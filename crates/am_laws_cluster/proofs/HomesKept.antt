@@ -100,7 +100,7 @@ accepted_addressed layout past (Events.Call actor end (Calls.Request index handl
       source = ap (λ (w : Message). declared layout w.serial.source) a ∙ (map_names layout actor end (Calls.Request index handler words) range).0;
       dest = ap (λ (w : Message). declared layout w.dest) a ∙ maps end index mapping e;
     }
-accepted_addressed layout past (Events.Call actor end Calls.Poll) (Out.Ran request handler (Some reply)) m maps range asked ran is =
+accepted_addressed layout past (Events.Call actor end Calls.Poll) (Out.Ran handler request (Some reply)) m maps range asked ran is =
     let same : reply ≡ m = cc in
     subst (IsAddressed layout) same
     (record {

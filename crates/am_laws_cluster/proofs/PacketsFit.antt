@@ -65,7 +65,7 @@ requests_formed : (e : EndpointId) (s : State) (ms : List Message) → IsFormed 
 requests_formed e s [] = tt
 requests_formed e s (m ∷ ms) = by_test _
   where
-    by_test : (b : Bool) → IsFormed (accepted_by Calls.Poll (if b then Out.Blocked else Out.Ran m (Some m.handler)
+    by_test : (b : Bool) → IsFormed (accepted_by Calls.Poll (if b then Out.Blocked else Out.Ran (Some m.handler) m
         (Some (answer e s m (entry_at s.body.handlers m.handler)))))
     by_test true = tt
     by_test false = answer_formed e s m (entry_at s.body.handlers m.handler)

@@ -106,8 +106,8 @@ called_sorted s (Calls.Request index handler words) (Out.Requested m) k = record
   replies = appended_replies m 0 s.body.replies k.replies;
 }
 called_sorted s Calls.Poll (Out.Zero serial why) k = record { requests = k.requests; replies = k.replies }
-called_sorted s Calls.Poll (Out.Ran m handler None) k = record { requests = k.requests; replies = k.replies }
-called_sorted s Calls.Poll (Out.Ran m handler (Some reply)) k = record {
+called_sorted s Calls.Poll (Out.Ran handler m None) k = record { requests = k.requests; replies = k.replies }
+called_sorted s Calls.Poll (Out.Ran handler m (Some reply)) k = record {
   requests = appended_requests reply 0 s.body.requests k.requests;
   replies = appended_replies reply 0 s.body.replies k.replies;
 }

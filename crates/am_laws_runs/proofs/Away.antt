@@ -109,10 +109,10 @@ called_settled s (Calls.Request index handler words) (Out.Requested m) h k =
     made_so s.head.place s.head.wanted s.body (called s (Calls.Request index handler words) (Out.Requested m)).body h refl k
 called_settled s Calls.Poll (Out.Zero serial why) h k = same_queue s.head.place s.head.wanted s.body (called s Calls.Poll (Out.Zero serial why)).body h refl
     refl k
-called_settled s Calls.Poll (Out.Ran m handler None) h k = same_queue s.head.place s.head.wanted s.body (called s Calls.Poll (Out.Ran m handler None)).body h
+called_settled s Calls.Poll (Out.Ran handler m None) h k = same_queue s.head.place s.head.wanted s.body (called s Calls.Poll (Out.Ran handler m None)).body h
     refl refl k
-called_settled s Calls.Poll (Out.Ran m handler (Some reply)) h k =
-    made_so s.head.place s.head.wanted s.body (called s Calls.Poll (Out.Ran m handler (Some reply))).body h refl k
+called_settled s Calls.Poll (Out.Ran handler m (Some reply)) h k =
+    made_so s.head.place s.head.wanted s.body (called s Calls.Poll (Out.Ran handler m (Some reply))).body h refl k
 called_settled s (Calls.SetTag tag) Out.Done h k = same_queue s.head.place s.head.wanted s.body (called s (Calls.SetTag tag) Out.Done).body h refl refl k
 called_settled s (Calls.Map index name tag credits) Out.Done h k =
     same_queue s.head.place s.head.wanted s.body (called s (Calls.Map index name tag credits) Out.Done).body h refl refl k

@@ -82,8 +82,8 @@ gone_bounces t u (g ∷ gs) apart = by_first (has_serial u g.message) refl (gone
 pub called_flights : (st : State) (c : Call) (o : Outcome) → (called st c o).body.in_flight ≡ st.body.in_flight
 called_flights st (Calls.Request index handler words) (Out.Requested m) = refl
 called_flights st Calls.Poll (Out.Zero serial why) = refl
-called_flights st Calls.Poll (Out.Ran m handler None) = refl
-called_flights st Calls.Poll (Out.Ran m handler (Some reply)) = refl
+called_flights st Calls.Poll (Out.Ran handler m None) = refl
+called_flights st Calls.Poll (Out.Ran handler m (Some reply)) = refl
 called_flights st (Calls.SetTag tag) Out.Done = refl
 called_flights st (Calls.Map index name tag credits) Out.Done = refl
 called_flights st (Calls.Unmap index) Out.Done = refl

@@ -41,8 +41,8 @@ if_before frame false s t step h = h
 called_before : (frame : ℕ) (s : State) (c : Call) (o : Outcome) → in_frame_at frame (called s c o) ≡ true → in_frame_at frame s ≡ true
 called_before frame s (Calls.Request index handler words) (Out.Requested m) h = h
 called_before frame s Calls.Poll (Out.Zero serial why) h = h
-called_before frame s Calls.Poll (Out.Ran m handler None) h = h
-called_before frame s Calls.Poll (Out.Ran m handler (Some reply)) h = h
+called_before frame s Calls.Poll (Out.Ran handler m None) h = h
+called_before frame s Calls.Poll (Out.Ran handler m (Some reply)) h = h
 called_before frame s (Calls.SetTag tag) Out.Done h = h
 called_before frame s (Calls.Map index name tag credits) Out.Done h = h
 called_before frame s (Calls.Unmap index) Out.Done h = h

@@ -106,7 +106,7 @@ pub poll_work : (s : ScenarioLists) (e : EndpointId) (st : State) → Polled s s
 poll_work s e st = by_notices st.body.notices refl
   where
     ran : (m : Message) (ms : List Message) → st.body.received ≡ m ∷ ms → is_reply m ≡ false →
-        body_work s (called st Calls.Poll (Out.Ran m (Some m.handler) (Some (answer e st m (entry_at st.body.handlers m.handler))))).body + 1 ≤ body_work s
+        body_work s (called st Calls.Poll (Out.Ran (Some m.handler) m (Some (answer e st m (entry_at st.body.handlers m.handler))))).body + 1 ≤ body_work s
         st.body
     ran m ms is none =
         let reply : Message = answer e st m (entry_at st.body.handlers m.handler) in
@@ -127,7 +127,7 @@ poll_work s e st = by_notices st.body.notices refl
 
     by_room : (m : Message) (ms : List Message) (b : Bool) → st.body.notices ≡ [] → st.body.received ≡ m ∷ ms → is_reply m ≡ false →
         nat_le 16 (replies_held st.body) ≡ b → Polled s st.body
-        (called st Calls.Poll (if b then Out.Blocked else Out.Ran m (Some m.handler) (Some (answer e st m (entry_at st.body.handlers m.handler))))).body
+        (called st Calls.Poll (if b then Out.Blocked else Out.Ran (Some m.handler) m (Some (answer e st m (entry_at st.body.handlers m.handler))))).body
     by_room m ms true quiet is none full = Full (omega arith) (ap length quiet) full
     by_room m ms false quiet is none full = Less (ran m ms is none)
 

@@ -73,8 +73,8 @@ called_fine Low s (Calls.Request index handler words) (Out.Requested m) f = reco
   flights = f.flights;
 }
 called_fine Low s Calls.Poll (Out.Zero serial why) f = record { replies' = f.replies'; flights = f.flights }
-called_fine Low s Calls.Poll (Out.Ran m handler None) f = record { replies' = f.replies'; flights = f.flights }
-called_fine Low s Calls.Poll (Out.Ran m handler (Some reply)) f = record {
+called_fine Low s Calls.Poll (Out.Ran handler m None) f = record { replies' = f.replies'; flights = f.flights }
+called_fine Low s Calls.Poll (Out.Ran handler m (Some reply)) f = record {
   replies' = appended_answers (is_reply reply) reply 0 s.body.replies refl f.replies';
   flights = f.flights;
 }

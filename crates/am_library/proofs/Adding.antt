@@ -43,14 +43,14 @@ use Rattle.am_scenario_types.specs.Lists.{ScenarioLists}
 use Rattle.am_model_scripts.specs.Layout.{layout_of}
 use Rattle.am_model_scripts.specs.Scripts.{KeepsScripts, call_made}
 use Rattle.am_model_scripts.specs.Follows.{KeepsToEvents, is_of_run}
-use Rattle.am_library.specs.declared.sums.Summing.{Summing}
-use Rattle.am_library.specs.Laws.{Adds, IsSumOfRuns, first_word, is_adding, leaves_adding}
-use Rattle.am_library.specs.Views.{is_to, requests_run, runs_at}
-use Rattle.am_library.proofs.Called.{calls_are_script, made}
-use Rattle.am_library.proofs.Distinct.{has_at}
-use Rattle.am_library.proofs.Ended.{request_as}
-use Rattle.am_library.proofs.Summed.{is_shown}
-use Rattle.am_library.proofs.Weights.{of, only, sum_filter, sum_one, sum_push}
+use Rattle.am_library_views.proofs.Summed.{Sums}
+use Rattle.am_library.specs.Laws.{Adds, IsSumOfRuns, is_adding, leaves_adding}
+use Rattle.am_library_views.specs.Views.{first_word, is_to, requests_run, runs_at}
+use Rattle.am_library_views.proofs.Called.{calls_are_script, made}
+use Rattle.am_library_views.proofs.Distinct.{has_at}
+use Rattle.am_library_views.proofs.Ended.{request_as}
+use Rattle.am_library_views.proofs.Summed.{is_shown}
+use Rattle.am_library_views.proofs.Weights.{of, only, sum_filter, sum_one, sum_push}
 
 -- ---- the calls leave it adding
 
@@ -139,9 +139,9 @@ sends_none s e layout past (Events.Call actor end (Calls.Request index handler w
         ap (asked_by e) is
         ∙ elsewhere (same_end e end) (λ (at : same_end e end ≡ true).
         let never : false ≡ true = good_call s e end actor (Calls.Request index handler words) at run good in absurd (cc))
-sends_none s e layout past (Events.Call actor end Calls.Poll) (Out.Ran m handler (Some reply)) run good asked =
+sends_none s e layout past (Events.Call actor end Calls.Poll) (Out.Ran handler m (Some reply)) run good asked =
     reply_weighs reply (is_request reply) (only (same_end e reply.serial.source) 1) refl asked.kind
-sends_none s e layout past (Events.Call actor end Calls.Poll) (Out.Ran m handler None) run good asked = refl
+sends_none s e layout past (Events.Call actor end Calls.Poll) (Out.Ran handler m None) run good asked = refl
 sends_none s e layout past (Events.Call actor end call) o run good asked = refl
 sends_none s e layout past event o run good asked = refl
 
@@ -158,7 +158,7 @@ answers_none : (e : EndpointId) (layout : Layout) (past : List Entry) (event : E
     of (answers_to e) (accepted_in event o) ≡ 0
 answers_none e layout past (Events.Call actor end (Calls.Request index handler words)) (Out.Requested m) asked sends ran none =
     request_weighs m (only (is_to e m) 1) sends
-answers_none e layout past (Events.Call actor end Calls.Poll) (Out.Ran m handler (Some reply)) asked sends ran none =
+answers_none e layout past (Events.Call actor end Calls.Poll) (Out.Ran handler m (Some reply)) asked sends ran none =
     ap (λ (b : Bool). only b (only (is_to e reply) 1)) sends.1
     ∙ elsewhere (is_to e reply) (λ (at : is_to e reply ≡ true).
     let source : e ≡ m.serial.source = same_end-is e reply.dest at ∙ asked.dest in
@@ -166,7 +166,7 @@ answers_none e layout past (Events.Call actor end Calls.Poll) (Out.Ran m handler
     ap (λ (b : Bool). only b (only (same_end e m.serial.source) 1)) sends.0
     ∙ ap (λ (b : Bool). only b 1) (subst (λ (d : EndpointId). same_end e d ≡ true) source (same_end-refl e)) in
     absurd (omega (arith, one, weighs_none (asked_by e) past m none (ran m refl))))
-answers_none e layout past (Events.Call actor end Calls.Poll) (Out.Ran m handler None) asked sends ran none = refl
+answers_none e layout past (Events.Call actor end Calls.Poll) (Out.Ran handler m None) asked sends ran none = refl
 answers_none e layout past (Events.Call actor end call) o asked sends ran none = refl
 answers_none e layout past event o asked sends ran none = refl
 
@@ -207,8 +207,8 @@ adding_kind index (Add to) is = tt
 called_adds : (s : State) (c : Call) (o : Outcome) → is_adding c ≡ true → AllAdd s.body.handlers → AllAdd (called s c o).body.handlers
 called_adds s (Calls.Request at handler words) (Out.Requested m) good adds = adds
 called_adds s Calls.Poll (Out.Zero serial why) good adds = adds
-called_adds s Calls.Poll (Out.Ran m handler None) good adds = adds
-called_adds s Calls.Poll (Out.Ran m handler (Some reply)) good adds = adds
+called_adds s Calls.Poll (Out.Ran handler m None) good adds = adds
+called_adds s Calls.Poll (Out.Ran handler m (Some reply)) good adds = adds
 called_adds s (Calls.SetTag tag) Out.Done good adds = adds
 called_adds s (Calls.Map at name tag credits) Out.Done good adds = adds
 called_adds s (Calls.Unmap at) Out.Done good adds = adds
@@ -241,8 +241,8 @@ stays_set kinds at kind m is =
 called_set : (s : State) (c : Call) (o : Outcome) (m : Message) → HasHandler s.body.handlers m → HasHandler (called s c o).body.handlers m
 called_set s (Calls.Request at handler words) (Out.Requested n) m is = is
 called_set s Calls.Poll (Out.Zero serial why) m is = is
-called_set s Calls.Poll (Out.Ran n handler None) m is = is
-called_set s Calls.Poll (Out.Ran n handler (Some reply)) m is = is
+called_set s Calls.Poll (Out.Ran handler n None) m is = is
+called_set s Calls.Poll (Out.Ran handler n (Some reply)) m is = is
 called_set s (Calls.SetTag tag) Out.Done m is = is
 called_set s (Calls.Map at name tag credits) Out.Done m is = is
 called_set s (Calls.Unmap at) Out.Done m is = is
@@ -279,7 +279,7 @@ request_set : (request : Bool) (o : Option HandlerKind) → request ≡ true →
 request_set true o is set = set
 request_set false o is set = absurd (cc)
 
-own_handler : (m : Message) (handler : Option ℕ) (reply : Message) → is_request m ≡ true → RunsOwnHandler (Out.Ran m handler (Some reply)) →
+own_handler : (m : Message) (handler : Option ℕ) (reply : Message) → is_request m ≡ true → RunsOwnHandler (Out.Ran handler m (Some reply)) →
     handler ≡ Some m.handler
 own_handler m None reply is own = let never : false ≡ true = sym (ap (λ (b : Bool). if b then false else true) is) ∙ own in absurd (cc)
 own_handler m (Some handler) reply is own = ap (λ (n : ℕ). Some n) own
@@ -311,7 +311,7 @@ called_sum : (s : ScenarioLists) (e : EndpointId) (past : List Entry) (t : State
     ((m : Message) → run_in (Events.Call actor end call) o ≡ Some m → (end ≡ m.dest) × RunsOwnHandler o × (answers_to e m ≡ 0)) →
     (called t call o).body.sum ≡ (t.body.sum + of (adds_word e) (run_in (Events.Call actor end call) o)) % 2 ^ 64 ⊎
     (((called t call o).body.sum ≡ t.body.sum) × (of (adds_word e) (run_in (Events.Call actor end call) o) ≡ 0))
-called_sum s e past t actor end Calls.Poll (Out.Ran m handler (Some reply)) at adds set sends fits runs =
+called_sum s e past t actor end Calls.Poll (Out.Ran handler m (Some reply)) at adds set sends fits runs =
     let here = runs m refl in
     let held = polled_run (HasHandler t.body.handlers) end t m set t.body.notices (ap (λ (w : Outcome). run_in (Events.Call actor end Calls.Poll) w)
     (sym fits)) in
@@ -324,7 +324,7 @@ called_sum s e past t actor end Calls.Poll (Out.Ran m handler (Some reply)) at a
     (ap (λ (h : Option ℕ). sum_after (kind_run t.body.handlers h) m.words t.body.sum) (own_handler m handler reply sends.0 here.1)
     ∙ is_some_add t.body.handlers m (entry_at t.body.handlers m.handler) t.body.sum (adds m.handler) some
     ∙ ap (λ (n : ℕ). (t.body.sum + n) % 2 ^ 64) (sym weight))
-called_sum s e past t actor end Calls.Poll (Out.Ran m handler None) at adds set sends fits runs =
+called_sum s e past t actor end Calls.Poll (Out.Ran handler m None) at adds set sends fits runs =
     let here = runs m refl in
     let one : answers_to e m ≡ 1 =
     ap (λ (b : Bool). only b (only (is_to e m) 1)) sends
@@ -502,6 +502,6 @@ is_sum_of_runs s journal e lawful history laws scripts events adds =
     over_each (Goes s e) (SumsSo s e) (λ (past : List Entry) (x : Entry) (so_far : SumsSo s e past) (goes : Goes s e past x). sums_step s e past x so_far goes)
     [] journal (sums_begin s e)
     (all_go s e [] journal history laws.acceptance.as_asked laws.delivery.places laws.replies.sends events none) in
-    sym (ap (λ (w : Summing). w.sum) (is_shown (layout_of s) journal history e))
+    sym (ap (λ (w : Sums). w.sum) (is_shown (layout_of s) journal history e))
     ∙ sums.sum
     ∙ ap (λ (n : ℕ). n % 2 ^ 64) (sym (sum_of_runs journal e))

@@ -41,10 +41,10 @@ use Rattle.am_model_scripts.specs.Layout.{layout_of}
 use Rattle.am_model_scripts.specs.Scripts.{KeepsScripts, call_made}
 use Rattle.am_model_scripts.specs.Follows.{KeepsToEvents, is_of_run}
 use Rattle.am_library.specs.Laws.{Echoes, is_echoing, leaves_echoing}
-use Rattle.am_library.specs.Views.{is_to, reply_to, requests_run, runs_at}
+use Rattle.am_library_views.specs.Views.{is_to, reply_to, requests_run, runs_at}
 use Rattle.am_library.proofs.Adding.{HasHandler, changed_set, none_at, set_at}
-use Rattle.am_library.proofs.Distinct.{all_accepted, only_one, runs_once, unique}
-use Rattle.am_library.proofs.Ended.{request_as}
+use Rattle.am_library_views.proofs.Distinct.{all_accepted, only_one, runs_once, unique}
+use Rattle.am_library_views.proofs.Ended.{request_as}
 use Rattle.am_library.proofs.Replied.{kept_among}
 use Rattle.am_library.proofs.Scripted.{Goes, all_go, call_passes}
 
@@ -67,8 +67,8 @@ echoing_kind index (Add to) is = absurd (cc)
 called_echo : (s : State) (c : Call) (o : Outcome) → is_echoing c ≡ true → AllEcho s.body.handlers → AllEcho (called s c o).body.handlers
 called_echo s (Calls.Request at handler words) (Out.Requested m) good echo = echo
 called_echo s Calls.Poll (Out.Zero serial why) good echo = echo
-called_echo s Calls.Poll (Out.Ran m handler None) good echo = echo
-called_echo s Calls.Poll (Out.Ran m handler (Some reply)) good echo = echo
+called_echo s Calls.Poll (Out.Ran handler m None) good echo = echo
+called_echo s Calls.Poll (Out.Ran handler m (Some reply)) good echo = echo
 called_echo s (Calls.SetTag tag) Out.Done good echo = echo
 called_echo s (Calls.Map at name tag credits) Out.Done good echo = echo
 called_echo s (Calls.Unmap at) Out.Done good echo = echo
@@ -113,25 +113,25 @@ received_set s e past x history may at set =
 
 -- ---- what a poll replies
 
-polled_request : (e : EndpointId) (t : State) (ms : List Message) (q r : Message) (h : Option ℕ) → poll_requests e t ms ≡ Out.Ran q h (Some r) →
+polled_request : (e : EndpointId) (t : State) (ms : List Message) (q r : Message) (h : Option ℕ) → poll_requests e t ms ≡ Out.Ran h q (Some r) →
     r ≡ answer e t q (entry_at t.body.handlers q.handler)
 polled_request e t [] q r h is = absurd (cc)
 polled_request e t (m ∷ ms) q r h is = by_room (nat_le 16 (replies_held t.body)) is
   where
-    by_room : (b : Bool) → (if b then Out.Blocked else Out.Ran m (Some m.handler) (Some (answer e t m (entry_at t.body.handlers m.handler)))) ≡
-        Out.Ran q h (Some r) → r ≡ answer e t q (entry_at t.body.handlers q.handler)
+    by_room : (b : Bool) → (if b then Out.Blocked else Out.Ran (Some m.handler) m (Some (answer e t m (entry_at t.body.handlers m.handler)))) ≡
+        Out.Ran h q (Some r) → r ≡ answer e t q (entry_at t.body.handlers q.handler)
     by_room true never = absurd (cc)
     by_room false same =
         let request : m ≡ q = cc in
         let reply : answer e t m (entry_at t.body.handlers m.handler) ≡ r = cc in
         sym reply ∙ ap (λ (n : Message). answer e t n (entry_at t.body.handlers n.handler)) request
 
-polled_received : (e : EndpointId) (t : State) (o : Option Message) (q r : Message) (h : Option ℕ) → poll_received e t o ≡ Out.Ran q h (Some r) →
+polled_received : (e : EndpointId) (t : State) (o : Option Message) (q r : Message) (h : Option ℕ) → poll_received e t o ≡ Out.Ran h q (Some r) →
     r ≡ answer e t q (entry_at t.body.handlers q.handler)
 polled_received e t (Some m) q r h is = absurd (cc)
 polled_received e t None q r h is = polled_request e t t.body.received q r h is
 
-polled : (e : EndpointId) (t : State) (notices : List Notice) (q r : Message) (h : Option ℕ) → poll e t notices ≡ Out.Ran q h (Some r) →
+polled : (e : EndpointId) (t : State) (notices : List Notice) (q r : Message) (h : Option ℕ) → poll e t notices ≡ Out.Ran h q (Some r) →
     r ≡ answer e t q (entry_at t.body.handlers q.handler)
 polled e t (notice ∷ notices) q r h is = absurd (cc)
 polled e t [] q r h is = polled_received e t (find is_reply t.body.received) q r h is
@@ -187,7 +187,7 @@ replies_now s e past (Events.Call actor end (Calls.Request index handler words))
         let none : m.about ≡ None = ap (λ (n : Message). n.about) made in
         let some : m.about ≡ Some serial = ap (λ (n : Message). n.about) same ∙ about in
         let never : None ≡ Some serial = sym none ∙ some in absurd (cc)
-replies_now s e past (Events.Call actor end Calls.Poll) (Out.Ran m handler (Some reply)) r serial so_far fits asked sends place is about =
+replies_now s e past (Events.Call actor end Calls.Poll) (Out.Ran handler m (Some reply)) r serial so_far fits asked sends place is about =
     let same : reply ≡ r = cc in
     let t : State = state_of (layout_of s) past end in
     let from : reply ≡ answer end t m (entry_at t.body.handlers m.handler) = polled end t t.body.notices m reply handler (sym fits) in
@@ -207,7 +207,7 @@ replies_now s e past (Events.Call actor end Calls.Poll) (Out.Ran m handler (Some
           ∙ echoed end t m (entry_at t.body.handlers m.handler) echo
           (request_set (is_request m) (entry_at t.body.handlers m.handler) sends.0 held.held);
     }
-replies_now s e past (Events.Call actor end Calls.Poll) (Out.Ran m handler None) r serial so_far fits asked sends place is about = absurd (cc)
+replies_now s e past (Events.Call actor end Calls.Poll) (Out.Ran handler m None) r serial so_far fits asked sends place is about = absurd (cc)
 replies_now s e past (Events.Call actor end call) o r serial so_far fits asked sends place is about = absurd (cc)
 replies_now s e past event o r serial so_far fits asked sends place is about = absurd (cc)
 

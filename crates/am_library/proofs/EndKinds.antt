@@ -17,9 +17,9 @@ use Rattle.am_office_entries.specs.Entries.{accepted_of, run_of}
 use Rattle.am_office_entries.specs.Fates.{causes_of, fate, fate_by, is_accepted, is_run, is_unknown}
 use Rattle.am_model.specs.Layout.{Layout}
 use Rattle.am_model.specs.PostOffice.{PostOffice, WasAccepted, is_about}
-use Rattle.am_library.specs.Ends.{is_back, is_lost, words_of}
-use Rattle.am_library.specs.Views.{reply_to}
-use Rattle.am_library.proofs.Distinct.{accepted_once, all_accepted, find_in, found_in, has_place, only_one, unique}
+use Rattle.am_library_views.specs.Ends.{is_back, is_lost, words_of}
+use Rattle.am_library_views.specs.Views.{reply_to}
+use Rattle.am_library_views.proofs.Distinct.{accepted_once, all_accepted, find_in, found_in, has_place, only_one, unique}
 
 -- ---- a message that did not run
 

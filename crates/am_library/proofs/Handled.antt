@@ -38,10 +38,10 @@ use Rattle.am_model_scripts.specs.Layout.{layout_of}
 use Rattle.am_model_scripts.specs.Scripts.{KeepsScripts, call_made}
 use Rattle.am_model_scripts.specs.Follows.{KeepsToEvents, is_of_run}
 use Rattle.am_library.specs.Laws.{is_handler, sets_handler}
-use Rattle.am_library.specs.Views.{is_to, requests_run}
+use Rattle.am_library_views.specs.Views.{is_to, requests_run}
 use Rattle.am_library.proofs.Adding.{none_at}
-use Rattle.am_library.proofs.Called.{calls_are_script, made}
-use Rattle.am_library.proofs.Weights.{of, only, sum_filter, sum_one, sum_push}
+use Rattle.am_library_views.proofs.Called.{calls_are_script, made}
+use Rattle.am_library_views.proofs.Weights.{of, only, sum_filter, sum_one, sum_push}
 
 -- ---- the calls leave it without handlers
 
@@ -106,8 +106,8 @@ AllUnset kinds = (index : ℕ) → entry_at kinds index ≡ None
 called_unset : (s : State) (c : Call) (o : Outcome) → is_handler c ≡ false → AllUnset s.body.handlers → AllUnset (called s c o).body.handlers
 called_unset s (Calls.Request at handler words) (Out.Requested m) bare unset = unset
 called_unset s Calls.Poll (Out.Zero serial why) bare unset = unset
-called_unset s Calls.Poll (Out.Ran m handler None) bare unset = unset
-called_unset s Calls.Poll (Out.Ran m handler (Some reply)) bare unset = unset
+called_unset s Calls.Poll (Out.Ran handler m None) bare unset = unset
+called_unset s Calls.Poll (Out.Ran handler m (Some reply)) bare unset = unset
 called_unset s (Calls.SetTag tag) Out.Done bare unset = unset
 called_unset s (Calls.Map at name tag credits) Out.Done bare unset = unset
 called_unset s (Calls.Unmap at) Out.Done bare unset = unset
@@ -135,7 +135,7 @@ unset_refuses false o is welcome = refl
 -- what runs there is no request
 run_quiet : (s : ScenarioLists) (e : EndpointId) (t : State) (event : Event) (o : Outcome) (m : Message) → run_in event o ≡ Some m →
     FitsCall (layout_of s).pool t event o → ReceivedAre NoRequest t → NoRequest m
-run_quiet s e t (Events.Call actor end Calls.Poll) (Out.Ran n handler sends) m is fits quiet =
+run_quiet s e t (Events.Call actor end Calls.Poll) (Out.Ran handler n sends) m is fits quiet =
     (polled_run NoRequest end t m quiet t.body.notices (ap (λ (w : Outcome). run_in (Events.Call actor end Calls.Poll) w) (sym fits) ∙ is)).held
 run_quiet s e t event o m is fits quiet = absurd (cc)
 

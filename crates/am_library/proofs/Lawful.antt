@@ -24,24 +24,23 @@ use Rattle.am_model.specs.PostOffice.{is_about, times}
 use Rattle.am_scenario_types.specs.Lists.{ScenarioLists}
 use Rattle.am_model_scripts.specs.Layout.{layout_of}
 use Rattle.am_laws_runs.specs.Turns.Endings.{WithholdsNothing}
-use Rattle.am_library.specs.declared.sums.Summing.{Summing}
-use Rattle.am_library.specs.Ends.{is_back, is_lost, words_asked, words_fated, words_of, words_refused, words_run}
+use Rattle.am_library_views.proofs.Summed.{Sums}
+use Rattle.am_library_views.specs.Ends.{is_back, is_lost, words_asked, words_fated, words_of, words_refused, words_run}
 use Rattle.am_library.specs.Laws.{AllRunWhereTheyLead, EachAskedHasItsEnd, EachReplyHasItsEnd, EachRequestHasItsEnd, EachRunHasOneReply, EchoesAreWords}
 use Rattle.am_library.specs.Laws.{EndOf, HasOneReply, IsGone, ItRan, NothingIsLost, RanOrCameBack, RunsAtMostOnce, RunsWhereHandlersAre, SumsAreOfRuns}
 use Rattle.am_library.specs.Laws.{SumsAreTheEndpoints, TheUnknownDidNotRun, WasRefused, WhatCameBackNeverRan, WhatRanWasAskedFor, WholeSums, first_of}
-use Rattle.am_library.specs.Laws.{first_word}
 use Rattle.am_library.specs.Runs.{IsRun}
-use Rattle.am_library.specs.Views.{is_to, requests_run, requests_sent, runs_at}
+use Rattle.am_library_views.specs.Views.{first_word, is_to, requests_run, requests_sent, runs_at}
 use Rattle.am_library.proofs.Adding.{is_sum_of_runs}
-use Rattle.am_library.proofs.Distinct.{count_role, found_in, has_at, runs_once}
+use Rattle.am_library_views.proofs.Distinct.{count_role, found_in, has_at, runs_once}
 use Rattle.am_library.proofs.Echoing as echoed
-use Rattle.am_library.proofs.Ended.{add_up}
+use Rattle.am_library_views.proofs.Ended.{add_up}
 use Rattle.am_library.proofs.EndKinds.{back_is, gone, lost_is, of_words, one_of_four, unheard}
 use Rattle.am_library.proofs.Leading.{runs_lead}
 use Rattle.am_library.proofs.Replied.{has_one_reply, kept_among}
 use Rattle.am_library.proofs.Handled as handled
-use Rattle.am_library.proofs.Summed.{is_shown}
-use Rattle.am_library.proofs.Weights.{only, sum_filter, sum_map}
+use Rattle.am_library_views.proofs.Summed.{is_shown}
+use Rattle.am_library_views.proofs.Weights.{only, sum_filter, sum_map}
 
 only_less : (a : Bool) (n : ℕ) → only a n ≤ n
 only_less true n = omega arith
@@ -106,7 +105,7 @@ sums_are_of_runs s journal e run adds =
     is_sum_of_runs s journal e run.lawful run.obeys.history run.obeys.laws run.whole.follows.scripts run.whole.follows.events adds
 
 pub sums_are_the_endpoints : SumsAreTheEndpoints
-sums_are_the_endpoints s journal e run = sym (ap (λ (w : Summing). w.sum) (is_shown (layout_of s) journal run.obeys.history e))
+sums_are_the_endpoints s journal e run = sym (ap (λ (w : Sums). w.sum) (is_shown (layout_of s) journal run.obeys.history e))
 
 pub runs_where_handlers_are : RunsWhereHandlersAre
 runs_where_handlers_are s journal m run has =

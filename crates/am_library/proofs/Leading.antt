@@ -28,13 +28,13 @@ use Rattle.am_model_scripts.specs.Layout.{layout_of}
 use Rattle.am_model_scripts.specs.Scripts.{KeepsScripts, call_made}
 use Rattle.am_model_scripts.specs.Follows.{KeepsToEvents, is_of_run}
 use Rattle.am_library.specs.Laws.{LeadsTo, leads}
-use Rattle.am_library.specs.Views.{is_to, requests_run, runs_at}
+use Rattle.am_library_views.specs.Views.{is_to, requests_run, runs_at}
 use Rattle.am_library.proofs.Adding.{weighs_none}
-use Rattle.am_library.proofs.Distinct.{all_accepted}
-use Rattle.am_library.proofs.Ended.{request_as}
+use Rattle.am_library_views.proofs.Distinct.{all_accepted}
+use Rattle.am_library_views.proofs.Ended.{request_as}
 use Rattle.am_library.proofs.Replied.{kept_among}
 use Rattle.am_library.proofs.Scripted.{Goes, all_go, call_passes}
-use Rattle.am_library.proofs.Weights.{of, only, sum_push}
+use Rattle.am_library_views.proofs.Weights.{of, only, sum_push}
 
 -- what an index leads to, if anywhere
 abbrev Leads : EndpointId → Option Mapping → Type 0
@@ -91,9 +91,9 @@ none_strays e layout past (Events.Call actor end (Calls.Request index handler wo
         strays e m ≡ 0
     by_mapping None never leads' = absurd never
     by_mapping (Some mapping) is leads' = ap (strays e) is ∙ goes_there e mapping.name true leads'
-none_strays e layout past (Events.Call actor end Calls.Poll) (Out.Ran m handler (Some reply)) asked lead =
+none_strays e layout past (Events.Call actor end Calls.Poll) (Out.Ran handler m (Some reply)) asked lead =
     reply_strays e reply (is_request reply) refl asked.kind
-none_strays e layout past (Events.Call actor end Calls.Poll) (Out.Ran m handler None) asked lead = refl
+none_strays e layout past (Events.Call actor end Calls.Poll) (Out.Ran handler m None) asked lead = refl
 none_strays e layout past (Events.Call actor end call) o asked lead = refl
 none_strays e layout past event o asked lead = refl
 

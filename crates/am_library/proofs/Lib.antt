@@ -1,17 +1,6 @@
-pub mod Weights
-pub mod Called
-pub mod Distinct
-pub mod Ended
 pub mod Replied
-pub mod Summed
 pub mod Adding
 pub mod Handled
-pub mod Faulty
-pub mod Drafted
-pub mod OnNodes
-pub mod Accounting
-pub mod Ran
-pub mod Endwise
 pub mod Running
 pub mod Scripted
 pub mod Leading

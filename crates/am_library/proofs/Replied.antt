@@ -24,10 +24,10 @@ use Rattle.am_model.specs.PostOffice.{IsAcceptedAsAsked, IsAcceptedBy, PostOffic
 use Rattle.am_model.proofs.Each.{over_each}
 use Rattle.am_model.proofs.Names.{same_serial-is}
 use Rattle.am_library.specs.Laws.{HasOneReply}
-use Rattle.am_library.specs.Views.{requests_run}
-use Rattle.am_library.proofs.Distinct.{only_one, own_serial, runs_once, unique}
-use Rattle.am_library.proofs.Ended.{request_as}
-use Rattle.am_library.proofs.Weights.{of, only, sum_push}
+use Rattle.am_library_views.specs.Views.{requests_run}
+use Rattle.am_library_views.proofs.Distinct.{only_one, own_serial, runs_once, unique}
+use Rattle.am_library_views.proofs.Ended.{request_as}
+use Rattle.am_library_views.proofs.Weights.{of, only, sum_push}
 
 -- ---- as many replies to a request are accepted as it has runs
 
@@ -53,9 +53,9 @@ answers_exact s layout past (Events.Call actor end (Calls.Request index handler 
     by_mapping : (o : Option Mapping) → MatchOption o ⊥ (λ (mapping : Mapping). m ≡ request_as layout past end handler words mapping) → answered s m ≡ 0
     by_mapping None never = absurd never
     by_mapping (Some mapping) is = no_answer s m m.about refl (ap (λ (n : Message). n.about) is)
-answers_exact s layout past (Events.Call actor end Calls.Poll) (Out.Ran m handler (Some reply)) asked sends =
+answers_exact s layout past (Events.Call actor end Calls.Poll) (Out.Ran handler m (Some reply)) asked sends =
     ap (λ (about : Option Serial). only (is_serial s about) 1) asked.about ∙ sym (ap (λ (b : Bool). only b (only (has_serial s m) 1)) sends.0)
-answers_exact s layout past (Events.Call actor end Calls.Poll) (Out.Ran m handler None) asked sends =
+answers_exact s layout past (Events.Call actor end Calls.Poll) (Out.Ran handler m None) asked sends =
     sym (no_run m (is_request m) (only (has_serial s m) 1) refl sends)
 answers_exact s layout past (Events.Call actor end call) o asked sends = refl
 answers_exact s layout past event o asked sends = refl
@@ -115,7 +115,7 @@ answers_now layout past (Events.Call actor end (Calls.Request index handler word
         let none : m.about ≡ None = ap (λ (n : Message). n.about) made in
         let some : m.about ≡ Some s = ap (λ (n : Message). n.about) same ∙ about in
         let never : None ≡ Some s = sym none ∙ some in absurd (cc)
-answers_now layout past (Events.Call actor end Calls.Poll) (Out.Ran m handler (Some reply)) r s asked is about =
+answers_now layout past (Events.Call actor end Calls.Poll) (Out.Ran handler m (Some reply)) r s asked is about =
     let same : reply ≡ r = cc in (
       m,
       refl,
@@ -123,7 +123,7 @@ answers_now layout past (Events.Call actor end Calls.Poll) (Out.Ran m handler (S
       subst (λ (n : Message). n.dest ≡ m.serial.source) same asked.dest,
       subst (λ (n : Message). n.tag ≡ m.reply_tag) same asked.tag,
     )
-answers_now layout past (Events.Call actor end Calls.Poll) (Out.Ran m handler None) r s asked is about = absurd (cc)
+answers_now layout past (Events.Call actor end Calls.Poll) (Out.Ran handler m None) r s asked is about = absurd (cc)
 answers_now layout past (Events.Call actor end call) o r s asked is about = absurd (cc)
 answers_now layout past event o r s asked is about = absurd (cc)
 

@@ -13,8 +13,8 @@ use Rattle.am_scenario_types.specs.Lists.{ScenarioLists}
 use Rattle.am_model_scripts.specs.Layout.{layout_of}
 use Rattle.am_model_scripts.specs.Scripts.{KeepsScripts, call_made}
 use Rattle.am_model_scripts.specs.Follows.{KeepsToEvents, is_of_run}
-use Rattle.am_library.proofs.Called.{calls_are_script, made}
-use Rattle.am_library.proofs.Weights.{of, only, sum_one}
+use Rattle.am_library_views.proofs.Called.{calls_are_script, made}
+use Rattle.am_library_views.proofs.Weights.{of, only, sum_one}
 
 -- whether the call passes, if there is one
 abbrev pub call_passes : (ScriptCall → Bool) → Option ScriptCall → Bool

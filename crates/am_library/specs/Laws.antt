@@ -22,10 +22,10 @@ use Rattle.am_model_scripts.specs.Layout.{layout_of}
 use Rattle.am_scenario_types.specs.declared.parts.ScriptCall.{ScriptCall}
 use Rattle.am_scenario_types.specs.Lists.{ScenarioLists}
 use Rattle.am_laws_runs.specs.Turns.Endings.{WithholdsNothing}
-use Rattle.am_library.specs.Drafts.{with_calls}
-use Rattle.am_library.specs.Ends.{AddUp, is_lost, words_asked, words_fated, words_refused}
+use Rattle.am_library_drafts.specs.Drafts.{with_calls}
+use Rattle.am_library_views.specs.Ends.{AddUp, is_lost, words_asked, words_fated, words_refused}
 use Rattle.am_library.specs.Runs.{IsRun}
-use Rattle.am_library.specs.Views.{reply_to, requests_run, requests_sent, runs_at, sum_at}
+use Rattle.am_library_views.specs.Views.{first_word, reply_to, requests_run, requests_sent, runs_at, sum_at}
 
 -- one reply to a request was accepted: it goes back to the request's source, under the tag that the request gives
 pub record HasOneReply (journal : List Entry) (m : Message) : Type 0 where
@@ -72,9 +72,6 @@ leads e made = maps_to e made.call
 -- one endpoint to which all lead: each map of the script names it
 abbrev pub LeadsTo : ScenarioLists → EndpointId → Type 0
 LeadsTo s e = list_all (leads e) s.script ≡ true
-
-abbrev pub first_word : Message → ℕ
-first_word m = m.words.a
 
 -- the sum of an endpoint is that of the first words of the requests that ran there
 abbrev pub IsSumOfRuns : List Entry → EndpointId → Type 0

@@ -1,7 +1,7 @@
 //! Why a round came to nothing.
 
-use crate::draft::DraftFault;
 use crate::runner::RunFault;
+use am_library_drafts::DraftFault;
 use am_names::NoMemory;
 use std::alloc::AllocError;
 use thiserror::Error;

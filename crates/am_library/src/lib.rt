@@ -2,24 +2,15 @@
 //! a library's words.
 #![tactic(auto)]
 
-mod account;
-pub mod calls;
-mod draft;
-mod endings;
 mod faults;
 pub mod laws;
-pub mod lines;
-mod round_sum;
 mod rounds;
 mod runner;
-mod runs;
-mod sums;
 
-pub use account::Account;
-pub use draft::{Draft, DraftFault, Setting};
-pub use endings::Ending;
+pub use am_library_drafts::{Draft, DraftFault, Setting, calls, lines};
+pub use am_library_views::{
+    Account, Ending, RoundSum, Run, first_word_at, runs_at, runs_with_replies, sum_at,
+};
 pub use faults::RoundFault;
-pub use round_sum::RoundSum;
+pub use rounds::RunDraft;
 pub use runner::{AtOnce, BySeed, DrainAlone, Finished, RunFault, RunJournal, Runner};
-pub use runs::{Run, first_word_at, runs_at, runs_with_replies};
-pub use sums::sum_at;

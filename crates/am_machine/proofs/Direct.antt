@@ -24,8 +24,8 @@ on_disk s = is_on_disk s.head.place
 called_stays : (s : State) (c : Call) (o : Outcome) → on_disk s ≡ false → on_disk (called s c o) ≡ false
 called_stays s (Calls.Request index handler words) (Out.Requested m) h = h
 called_stays s Calls.Poll (Out.Zero serial why) h = h
-called_stays s Calls.Poll (Out.Ran m handler None) h = h
-called_stays s Calls.Poll (Out.Ran m handler (Some reply)) h = h
+called_stays s Calls.Poll (Out.Ran handler m None) h = h
+called_stays s Calls.Poll (Out.Ran handler m (Some reply)) h = h
 called_stays s (Calls.SetTag tag) Out.Done h = h
 called_stays s (Calls.Map index name tag credits) Out.Done h = h
 called_stays s (Calls.Unmap index) Out.Done h = h

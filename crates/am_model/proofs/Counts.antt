@@ -52,7 +52,7 @@ request_serial e s index handler words None None = tt
 request_serial e s index handler words None (Some mapping) = refl
 
 front_serial : (e : EndpointId) (s : State) (m : Message) (full : Bool) →
-    HasSerial (new_serial e s) (accepted_by Calls.Poll (if full then Out.Blocked else Out.Ran m (Some m.handler)
+    HasSerial (new_serial e s) (accepted_by Calls.Poll (if full then Out.Blocked else Out.Ran (Some m.handler) m
     (Some (answer e s m (entry_at s.body.handlers m.handler)))))
 front_serial e s m true = tt
 front_serial e s m false = answer_serial e s m (entry_at s.body.handlers m.handler)
@@ -89,8 +89,8 @@ any m = true
 pub called_counts : (s : State) (c : Call) (o : Outcome) → (called s c o).body.accepted ≡ s.body.accepted + weight any (accepted_by c o)
 called_counts s (Calls.Request index handler words) (Out.Requested m) = refl
 called_counts s Calls.Poll (Out.Zero serial why) = omega arith
-called_counts s Calls.Poll (Out.Ran m handler None) = omega arith
-called_counts s Calls.Poll (Out.Ran m handler (Some reply)) = refl
+called_counts s Calls.Poll (Out.Ran handler m None) = omega arith
+called_counts s Calls.Poll (Out.Ran handler m (Some reply)) = refl
 called_counts s (Calls.SetTag tag) Out.Done = omega arith
 called_counts s (Calls.Map index name tag credits) Out.Done = omega arith
 called_counts s (Calls.Unmap index) Out.Done = omega arith

@@ -110,8 +110,8 @@ order_put pool e s t stays sound p order =
 called_put : (s : State) (c : Call) (o : Outcome) → StaysPut s (called s c o)
 called_put s (Calls.Request index handler words) (Out.Requested m) = record { place = refl; flights = λ none. none }
 called_put s Calls.Poll (Out.Zero serial why) = record { place = refl; flights = λ none. none }
-called_put s Calls.Poll (Out.Ran m handler None) = record { place = refl; flights = λ none. none }
-called_put s Calls.Poll (Out.Ran m handler (Some reply)) = record { place = refl; flights = λ none. none }
+called_put s Calls.Poll (Out.Ran handler m None) = record { place = refl; flights = λ none. none }
+called_put s Calls.Poll (Out.Ran handler m (Some reply)) = record { place = refl; flights = λ none. none }
 called_put s (Calls.SetTag tag) Out.Done = record { place = refl; flights = λ none. none }
 called_put s (Calls.Map index name tag credits) Out.Done = record { place = refl; flights = λ none. none }
 called_put s (Calls.Unmap index) Out.Done = record { place = refl; flights = λ none. none }

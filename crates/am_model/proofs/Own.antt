@@ -110,8 +110,8 @@ called_tag : (e : EndpointId) (s : State) (c : Call) (o : Outcome) (actor : Acto
     (called s c o).body.tag ≡ unwrap_or (tag_set e (Events.Call actor end c) o) s.body.tag
 called_tag e s (Calls.Request index handler words) (Out.Requested m) actor end at = refl
 called_tag e s Calls.Poll (Out.Zero serial why) actor end at = refl
-called_tag e s Calls.Poll (Out.Ran m handler None) actor end at = refl
-called_tag e s Calls.Poll (Out.Ran m handler (Some reply)) actor end at = refl
+called_tag e s Calls.Poll (Out.Ran handler m None) actor end at = refl
+called_tag e s Calls.Poll (Out.Ran handler m (Some reply)) actor end at = refl
 called_tag e s (Calls.SetTag tag) Out.Done actor end at = rw at refl
 called_tag e s (Calls.Map index name tag credits) Out.Done actor end at = refl
 called_tag e s (Calls.Unmap index) Out.Done actor end at = refl

@@ -49,8 +49,8 @@ queued_sends p m used b = both_appended p m used b.requests b.replies (is_reques
 pub called_sends : (p : Message → Bool) (s : State) (c : Call) (o : Outcome) → to_send p (called s c o).body ≡ to_send p s.body + weight p (accepted_by c o)
 called_sends p s (Calls.Request index handler words) (Out.Requested m) = both_appended p m 0 s.body.requests s.body.replies (is_request m)
 called_sends p s Calls.Poll (Out.Zero serial why) = omega arith
-called_sends p s Calls.Poll (Out.Ran m handler None) = omega arith
-called_sends p s Calls.Poll (Out.Ran m handler (Some reply)) = both_appended p reply 0 s.body.requests s.body.replies (is_request reply)
+called_sends p s Calls.Poll (Out.Ran handler m None) = omega arith
+called_sends p s Calls.Poll (Out.Ran handler m (Some reply)) = both_appended p reply 0 s.body.requests s.body.replies (is_request reply)
 called_sends p s (Calls.SetTag tag) Out.Done = omega arith
 called_sends p s (Calls.Map index name tag credits) Out.Done = omega arith
 called_sends p s (Calls.Unmap index) Out.Done = omega arith

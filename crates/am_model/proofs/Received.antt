@@ -57,8 +57,8 @@ find_counts p test (x ∷ xs) m e = find_counts_at p test x xs m (test x) (λ f.
 received_not_poll : (p : Message → Bool) (s : State) (c : Call) (o : Outcome) → run_by c o ≡ None → held p (called s c o) ≡ held p s
 received_not_poll p s (Calls.Request index handler words) (Out.Requested m) e = refl
 received_not_poll p s Calls.Poll (Out.Zero serial why) e = refl
-received_not_poll p s Calls.Poll (Out.Ran m handler None) e = absurd (cc)
-received_not_poll p s Calls.Poll (Out.Ran m handler (Some reply)) e = absurd (cc)
+received_not_poll p s Calls.Poll (Out.Ran handler m None) e = absurd (cc)
+received_not_poll p s Calls.Poll (Out.Ran handler m (Some reply)) e = absurd (cc)
 received_not_poll p s (Calls.SetTag tag) Out.Done e = refl
 received_not_poll p s (Calls.Map index name tag credits) Out.Done e = refl
 received_not_poll p s (Calls.Unmap index) Out.Done e = refl
@@ -68,8 +68,8 @@ received_not_poll p s Calls.Close Out.Done e = refl
 received_not_poll p s c o e = refl
 
 polled_front : (p : Message → Bool) (s : State) (m : Message) (ms : List Message) (handler : Option ℕ) (reply : Message) (full : Bool) →
-    s.body.received ≡ m ∷ ms → held p (called s Calls.Poll (if full then Out.Blocked else Out.Ran m handler (Some reply))) + weight p
-    (run_by Calls.Poll (if full then Out.Blocked else Out.Ran m handler (Some reply))) ≡ held p s
+    s.body.received ≡ m ∷ ms → held p (called s Calls.Poll (if full then Out.Blocked else Out.Ran handler m (Some reply))) + weight p
+    (run_by Calls.Poll (if full then Out.Blocked else Out.Ran handler m (Some reply))) ≡ held p s
 polled_front p s m ms handler reply true is = omega arith
 polled_front p s m ms handler reply false is = rw is (omega (arith, count_cons p m ms))
 

@@ -180,8 +180,8 @@ within_notice b w =
 within_other : (s : State) (c : Call) (o : Outcome) → accepted_by c o ≡ None → run_by c o ≡ None → IsWithinBounds s.body → IsWithinBounds (called s c o).body
 within_other s (Calls.Request index handler words) (Out.Requested m) e r w = absurd (cc)
 within_other s Calls.Poll (Out.Zero serial why) e r w = within_notice s.body w
-within_other s Calls.Poll (Out.Ran m handler None) e r w = absurd (cc)
-within_other s Calls.Poll (Out.Ran m handler (Some reply)) e r w = absurd (cc)
+within_other s Calls.Poll (Out.Ran handler m None) e r w = absurd (cc)
+within_other s Calls.Poll (Out.Ran handler m (Some reply)) e r w = absurd (cc)
 within_other s (Calls.SetTag tag) Out.Done e r w = record {
   requests = w.requests;
   replies = w.replies;
@@ -241,7 +241,7 @@ within_polled e s w [] = by_found (find is_reply s.body.received) refl
   where
     by_full : (m : Message) (ms : List Message) (full : Bool) → nat_le 16 (replies_held s.body) ≡ full → s.body.received ≡ m ∷ ms →
         find is_reply s.body.received ≡ None → IsWithinBounds
-        (called s Calls.Poll (if full then Out.Blocked else Out.Ran m (Some m.handler) (Some (answer e s m (entry_at s.body.handlers m.handler))))).body
+        (called s Calls.Poll (if full then Out.Blocked else Out.Ran (Some m.handler) m (Some (answer e s m (entry_at s.body.handlers m.handler))))).body
     by_full m ms true is at none = w
     by_full m ms false is at none = within_request m ms (Some m.handler) (answer e s m (entry_at s.body.handlers m.handler)) s.body at none
         (answer_kind e s m (entry_at s.body.handlers m.handler)) (leb-false 16 (replies_held s.body) is) w

@@ -149,7 +149,7 @@ queues_polled : (e : EndpointId) (s : State) → QueuesKept s.body → (notices 
 queues_polled e s kept (notice ∷ notices) = record { requests = kept.requests; replies = kept.replies }
 queues_polled e s kept [] = by_found (find is_reply s.body.received)
   where
-    by_full : (m : Message) (full : Bool) → QueuesKept (called s Calls.Poll (if full then Out.Blocked else Out.Ran m (Some m.handler)
+    by_full : (m : Message) (full : Bool) → QueuesKept (called s Calls.Poll (if full then Out.Blocked else Out.Ran (Some m.handler) m
         (Some (answer e s m (entry_at s.body.handlers m.handler))))).body
     by_full m true = kept
     by_full m false =
@@ -208,8 +208,8 @@ tables_called pool s (Calls.Request index handler words) (Out.Requested m) range
   in_flight = kept.in_flight;
 }
 tables_called pool s Calls.Poll (Out.Zero serial why) range kept = record { indexes = kept.indexes; credits = kept.credits; in_flight = kept.in_flight }
-tables_called pool s Calls.Poll (Out.Ran m handler None) range kept = record { indexes = kept.indexes; credits = kept.credits; in_flight = kept.in_flight }
-tables_called pool s Calls.Poll (Out.Ran m handler (Some reply)) range kept = record {
+tables_called pool s Calls.Poll (Out.Ran handler m None) range kept = record { indexes = kept.indexes; credits = kept.credits; in_flight = kept.in_flight }
+tables_called pool s Calls.Poll (Out.Ran handler m (Some reply)) range kept = record {
   indexes = kept.indexes;
   credits = kept.credits;
   in_flight = kept.in_flight;

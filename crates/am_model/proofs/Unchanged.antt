@@ -17,8 +17,8 @@ use Rattle.am_model.specs.Endpoint.{State}
 pub called_place : (s : State) (c : Call) (o : Outcome) → (called s c o).head.place ≡ s.head.place
 called_place s (Calls.Request index handler words) (Out.Requested m) = refl
 called_place s Calls.Poll (Out.Zero serial why) = refl
-called_place s Calls.Poll (Out.Ran m handler None) = refl
-called_place s Calls.Poll (Out.Ran m handler (Some reply)) = refl
+called_place s Calls.Poll (Out.Ran handler m None) = refl
+called_place s Calls.Poll (Out.Ran handler m (Some reply)) = refl
 called_place s (Calls.SetTag tag) Out.Done = refl
 called_place s (Calls.Map index name tag credits) Out.Done = refl
 called_place s (Calls.Unmap index) Out.Done = refl

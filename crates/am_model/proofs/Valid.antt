@@ -209,7 +209,7 @@ poll_parts pool e s p (notice ∷ notices) = notice_parts pool e s.body p
 poll_parts pool e s p [] = by_found (find is_reply s.body.received) refl
   where
     by_full : (m : Message) (ms : List Message) (full : Bool) → s.body.received ≡ m ∷ ms → find is_reply s.body.received ≡ None →
-        Parts e pool (called s Calls.Poll (if full then Out.Blocked else Out.Ran m (Some m.handler)
+        Parts e pool (called s Calls.Poll (if full then Out.Blocked else Out.Ran (Some m.handler) m
         (Some (answer e s m (entry_at s.body.handlers m.handler))))).body
     by_full m ms true at none = p
     by_full m ms false at none = request_ran_parts pool e s m ms (Some m.handler) (entry_at s.body.handlers m.handler) at none p

@@ -150,11 +150,11 @@ poll_requests e s [] = Out.Empty
 poll_requests e s (m ∷ ms) =
     if nat_le 16 (replies_held s.body)
     then Out.Blocked
-    else Out.Ran m (Some m.handler) (Some (answer e s m (entry_at s.body.handlers m.handler)))
+    else Out.Ran (Some m.handler) m (Some (answer e s m (entry_at s.body.handlers m.handler)))
 
 -- a poll where no notice is there
 abbrev pub poll_received : EndpointId → State → Option Message → Outcome
-poll_received e s (Some m) = Out.Ran m (handler_run s m) None
+poll_received e s (Some m) = Out.Ran (handler_run s m) m None
 poll_received e s None = poll_requests e s s.body.received
 
 abbrev pub poll : EndpointId → State → List Notice → Outcome

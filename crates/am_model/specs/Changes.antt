@@ -141,8 +141,8 @@ request_accepted index m s =
 abbrev pub called : State → Call → Outcome → State
 called s (Calls.Request index handler words) (Out.Requested m) = request_accepted index m s
 called s Calls.Poll (Out.Zero serial why) = with_body s (record s.body { notices = drop 1 s.body.notices })
-called s Calls.Poll (Out.Ran m handler None) = with_body s (answer_ran m handler s.body)
-called s Calls.Poll (Out.Ran m handler (Some reply)) = with_body (wanted_on_host s) (request_ran m handler reply s.body)
+called s Calls.Poll (Out.Ran handler m None) = with_body s (answer_ran m handler s.body)
+called s Calls.Poll (Out.Ran handler m (Some reply)) = with_body (wanted_on_host s) (request_ran m handler reply s.body)
 called s (Calls.SetTag tag) Out.Done = with_body s (record s.body { tag = tag })
 called s (Calls.Map index name tag credits) Out.Done =
     with_body s (with_mapped s.body index (Some (record { name = name; tag = tag; credits = credits })))

@@ -111,7 +111,7 @@ pub record IsReplyTo (e : EndpointId) (past : List Entry) (request reply : Messa
 -- a request is the one of its call, and a reply goes back to the request that the poll runs
 abbrev pub IsAcceptedSo : Layout → List Entry → EndpointId → Call → Outcome → Type 0
 IsAcceptedSo layout past e (Calls.Request index handler words) (Out.Requested m) = IsRequestOf layout past e index handler words m
-IsAcceptedSo layout past e Calls.Poll (Out.Ran m handler (Some reply)) = IsReplyTo e past m reply
+IsAcceptedSo layout past e Calls.Poll (Out.Ran handler m (Some reply)) = IsReplyTo e past m reply
 IsAcceptedSo layout past e call outcome = Unit {0}
 
 abbrev pub IsAcceptedBy : Layout → List Entry → Event → Outcome → Type 0
@@ -143,8 +143,8 @@ IsAt layout e event = ⊥
 
 -- the handler that runs is the message's own, and only a reply may run none
 abbrev pub RunsOwnHandler : Outcome → Type 0
-RunsOwnHandler (Out.Ran m (Some handler) sends) = handler ≡ m.handler
-RunsOwnHandler (Out.Ran m None sends) = is_reply m ≡ true
+RunsOwnHandler (Out.Ran (Some handler) m sends) = handler ≡ m.handler
+RunsOwnHandler (Out.Ran None m sends) = is_reply m ≡ true
 RunsOwnHandler outcome = Unit {0}
 
 -- what an entry puts was accepted and not yet put, and is put at its destination
@@ -208,8 +208,8 @@ UnknownOnce journal = (s : Serial) → times_serial unknown_of s journal ≤ 1
 -- one reply for the run of a request, and none without
 abbrev pub SendsOneReply : Call → Outcome → Type 0
 SendsOneReply (Calls.Request index handler words) (Out.Requested m) = is_request m ≡ true
-SendsOneReply Calls.Poll (Out.Ran m handler (Some reply)) = (is_request m ≡ true) × (is_reply reply ≡ true) × (reply.about ≡ Some m.serial)
-SendsOneReply Calls.Poll (Out.Ran m handler None) = is_reply m ≡ true
+SendsOneReply Calls.Poll (Out.Ran handler m (Some reply)) = (is_request m ≡ true) × (is_reply reply ≡ true) × (reply.about ≡ Some m.serial)
+SendsOneReply Calls.Poll (Out.Ran handler m None) = is_reply m ≡ true
 SendsOneReply call outcome = Unit {0}
 
 abbrev pub SendsOne : Event → Outcome → Type 0

@@ -68,5 +68,5 @@ journal =
     ∷ record { stamp = 2; event = Events.Call Outside zero_end (Calls.Map 0 one_end (record { 0 = 7 }) 1); outcome = Out.Done }
     ∷ record { stamp = 3; event = Events.Call Outside zero_end (Calls.Request 0 1 (record { a = 10; b = 20; c = 30; d = 40 })); outcome = Out.Requested request }
     ∷ record { stamp = 4; event = Events.Carry zero_end; outcome = Out.Accepted request }
-    ∷ record { stamp = 5; event = Events.Call Outside one_end Calls.Poll; outcome = Out.Ran request (Some 1) (Some empty_reply) }
+    ∷ record { stamp = 5; event = Events.Call Outside one_end Calls.Poll; outcome = Out.Ran (Some 1) request (Some empty_reply) }
     ∷ []

@@ -88,12 +88,12 @@ journal =
     ∷ record { stamp = 5; event = Events.Call Outside (record { 0 = 0 }) (Calls.Request 0 3 (record { a = 18446744073709551615; b = 6; c = 7; d = 8 })); outcome = Out.Requested m2 }
     ∷ record { stamp = 6; event = Events.Carry (record { 0 = 0 }); outcome = Out.Accepted m1 }
     ∷ record { stamp = 7; event = Events.Carry (record { 0 = 0 }); outcome = Out.Accepted m2 }
-    ∷ record { stamp = 8; event = Events.Call Outside (record { 0 = 1 }) Calls.Poll; outcome = Out.Ran m1 (Some 3) (Some m3) }
-    ∷ record { stamp = 9; event = Events.Call Outside (record { 0 = 1 }) Calls.Poll; outcome = Out.Ran m2 (Some 3) (Some m4) }
+    ∷ record { stamp = 8; event = Events.Call Outside (record { 0 = 1 }) Calls.Poll; outcome = Out.Ran (Some 3) m1 (Some m3) }
+    ∷ record { stamp = 9; event = Events.Call Outside (record { 0 = 1 }) Calls.Poll; outcome = Out.Ran (Some 3) m2 (Some m4) }
     ∷ record { stamp = 10; event = Events.Carry (record { 0 = 1 }); outcome = Out.Accepted m3 }
     ∷ record { stamp = 11; event = Events.Carry (record { 0 = 1 }); outcome = Out.Accepted m4 }
-    ∷ record { stamp = 12; event = Events.Call Outside (record { 0 = 0 }) Calls.Poll; outcome = Out.Ran m3 (Some 4) None }
-    ∷ record { stamp = 13; event = Events.Call Outside (record { 0 = 0 }) Calls.Poll; outcome = Out.Ran m4 (Some 4) None }
+    ∷ record { stamp = 12; event = Events.Call Outside (record { 0 = 0 }) Calls.Poll; outcome = Out.Ran (Some 4) m3 None }
+    ∷ record { stamp = 13; event = Events.Call Outside (record { 0 = 0 }) Calls.Poll; outcome = Out.Ran (Some 4) m4 None }
     ∷ record { stamp = 14; event = Events.Call Outside (record { 0 = 0 }) (Calls.Unmap 0); outcome = Out.Done }
     ∷ record { stamp = 15; event = Events.Call Outside (record { 0 = 0 }) (Calls.Unmap 0); outcome = Out.Refused No.NotMapped }
     ∷ []

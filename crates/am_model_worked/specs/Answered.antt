@@ -63,12 +63,12 @@ journal =
     ∷ record { stamp = 6; event = Events.Bind (record { 0 = 0 }) (record { 0 = 0 }); outcome = Out.Sent m1 (record { 0 = 1 }) 0 1 0 1 }
     ∷ record { stamp = 7; event = Events.Expire (record { 0 = 0 }) (record { 0 = 1 }) 0; outcome = Out.Sent m1 (record { 0 = 1 }) 0 1 1 2 }
     ∷ record { stamp = 8; event = Events.Receive (record { 0 = 1 }) (record { 0 = 0 }) 1; outcome = Out.Received 0 1 0 (Got.Accepted m1 1) }
-    ∷ record { stamp = 9; event = Events.Call Outside (record { 0 = 1 }) Calls.Poll; outcome = Out.Ran m1 (Some 1) (Some m2) }
+    ∷ record { stamp = 9; event = Events.Call Outside (record { 0 = 1 }) Calls.Poll; outcome = Out.Ran (Some 1) m1 (Some m2) }
     ∷ record { stamp = 10; event = Events.Bind (record { 0 = 1 }) (record { 0 = 1 }); outcome = Out.Sent m2 (record { 0 = 0 }) 0 1 0 2 }
     ∷ record { stamp = 11; event = Events.Receive (record { 0 = 0 }) (record { 0 = 1 }) 2; outcome = Out.Received 0 1 0 (Got.Accepted m2 3) }
     ∷ record { stamp = 12; event = Events.Expire (record { 0 = 0 }) (record { 0 = 1 }) 0; outcome = Out.Delivered m1.serial }
     ∷ record { stamp = 13; event = Events.Receive (record { 0 = 1 }) (record { 0 = 0 }) 3; outcome = Out.Received 0 1 0 (Got.Delivered m2.serial) }
-    ∷ record { stamp = 14; event = Events.Call Outside (record { 0 = 0 }) Calls.Poll; outcome = Out.Ran m2 None None }
+    ∷ record { stamp = 14; event = Events.Call Outside (record { 0 = 0 }) Calls.Poll; outcome = Out.Ran None m2 None }
     ∷ record { stamp = 15; event = Events.Receive (record { 0 = 0 }) (record { 0 = 1 }) 1; outcome = Out.Received 0 1 0 Got.Nothing }
     ∷ record { stamp = 16; event = Events.Drain (record { 0 = 0 }) (record { 0 = 0 }); outcome = Out.Silent }
     ∷ record { stamp = 17; event = Events.Unload (record { 0 = 0 }) (record { 0 = 0 }); outcome = Out.Silent }

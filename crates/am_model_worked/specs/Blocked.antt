@@ -477,57 +477,57 @@ journal =
     ∷ record { stamp = 4; event = Events.Call Outside (record { 0 = 0 }) (Calls.Map 2 (record { 0 = 1 }) (record { 0 = 7 }) 8); outcome = Out.Done }
     ∷ record { stamp = 5; event = Events.Call Outside (record { 0 = 0 }) (Calls.Request 0 1 (record { a = 0; b = 0; c = 0; d = 0 })); outcome = Out.Requested m1 }
     ∷ record { stamp = 6; event = Events.Carry (record { 0 = 0 }); outcome = Out.Accepted m1 }
-    ∷ record { stamp = 7; event = Events.Call Outside (record { 0 = 1 }) Calls.Poll; outcome = Out.Ran m1 (Some 1) (Some m2) }
+    ∷ record { stamp = 7; event = Events.Call Outside (record { 0 = 1 }) Calls.Poll; outcome = Out.Ran (Some 1) m1 (Some m2) }
     ∷ record { stamp = 8; event = Events.Call Outside (record { 0 = 0 }) (Calls.Request 0 1 (record { a = 0; b = 0; c = 0; d = 0 })); outcome = Out.Requested m3 }
     ∷ record { stamp = 9; event = Events.Carry (record { 0 = 0 }); outcome = Out.Accepted m3 }
-    ∷ record { stamp = 10; event = Events.Call Outside (record { 0 = 1 }) Calls.Poll; outcome = Out.Ran m3 (Some 1) (Some m4) }
+    ∷ record { stamp = 10; event = Events.Call Outside (record { 0 = 1 }) Calls.Poll; outcome = Out.Ran (Some 1) m3 (Some m4) }
     ∷ record { stamp = 11; event = Events.Call Outside (record { 0 = 0 }) (Calls.Request 0 1 (record { a = 0; b = 0; c = 0; d = 0 })); outcome = Out.Requested m5 }
     ∷ record { stamp = 12; event = Events.Carry (record { 0 = 0 }); outcome = Out.Accepted m5 }
-    ∷ record { stamp = 13; event = Events.Call Outside (record { 0 = 1 }) Calls.Poll; outcome = Out.Ran m5 (Some 1) (Some m6) }
+    ∷ record { stamp = 13; event = Events.Call Outside (record { 0 = 1 }) Calls.Poll; outcome = Out.Ran (Some 1) m5 (Some m6) }
     ∷ record { stamp = 14; event = Events.Call Outside (record { 0 = 0 }) (Calls.Request 0 1 (record { a = 0; b = 0; c = 0; d = 0 })); outcome = Out.Requested m7 }
     ∷ record { stamp = 15; event = Events.Carry (record { 0 = 0 }); outcome = Out.Accepted m7 }
-    ∷ record { stamp = 16; event = Events.Call Outside (record { 0 = 1 }) Calls.Poll; outcome = Out.Ran m7 (Some 1) (Some m8) }
+    ∷ record { stamp = 16; event = Events.Call Outside (record { 0 = 1 }) Calls.Poll; outcome = Out.Ran (Some 1) m7 (Some m8) }
     ∷ record { stamp = 17; event = Events.Call Outside (record { 0 = 0 }) (Calls.Request 0 1 (record { a = 0; b = 0; c = 0; d = 0 })); outcome = Out.Requested m9 }
     ∷ record { stamp = 18; event = Events.Carry (record { 0 = 0 }); outcome = Out.Accepted m9 }
-    ∷ record { stamp = 19; event = Events.Call Outside (record { 0 = 1 }) Calls.Poll; outcome = Out.Ran m9 (Some 1) (Some m10) }
+    ∷ record { stamp = 19; event = Events.Call Outside (record { 0 = 1 }) Calls.Poll; outcome = Out.Ran (Some 1) m9 (Some m10) }
     ∷ record { stamp = 20; event = Events.Call Outside (record { 0 = 0 }) (Calls.Request 0 1 (record { a = 0; b = 0; c = 0; d = 0 })); outcome = Out.Requested m11 }
     ∷ record { stamp = 21; event = Events.Carry (record { 0 = 0 }); outcome = Out.Accepted m11 }
-    ∷ record { stamp = 22; event = Events.Call Outside (record { 0 = 1 }) Calls.Poll; outcome = Out.Ran m11 (Some 1) (Some m12) }
+    ∷ record { stamp = 22; event = Events.Call Outside (record { 0 = 1 }) Calls.Poll; outcome = Out.Ran (Some 1) m11 (Some m12) }
     ∷ record { stamp = 23; event = Events.Call Outside (record { 0 = 0 }) (Calls.Request 0 1 (record { a = 0; b = 0; c = 0; d = 0 })); outcome = Out.Requested m13 }
     ∷ record { stamp = 24; event = Events.Carry (record { 0 = 0 }); outcome = Out.Accepted m13 }
-    ∷ record { stamp = 25; event = Events.Call Outside (record { 0 = 1 }) Calls.Poll; outcome = Out.Ran m13 (Some 1) (Some m14) }
+    ∷ record { stamp = 25; event = Events.Call Outside (record { 0 = 1 }) Calls.Poll; outcome = Out.Ran (Some 1) m13 (Some m14) }
     ∷ record { stamp = 26; event = Events.Call Outside (record { 0 = 0 }) (Calls.Request 0 1 (record { a = 0; b = 0; c = 0; d = 0 })); outcome = Out.Requested m15 }
     ∷ record { stamp = 27; event = Events.Carry (record { 0 = 0 }); outcome = Out.Accepted m15 }
-    ∷ record { stamp = 28; event = Events.Call Outside (record { 0 = 1 }) Calls.Poll; outcome = Out.Ran m15 (Some 1) (Some m16) }
+    ∷ record { stamp = 28; event = Events.Call Outside (record { 0 = 1 }) Calls.Poll; outcome = Out.Ran (Some 1) m15 (Some m16) }
     ∷ record { stamp = 29; event = Events.Call Outside (record { 0 = 0 }) (Calls.Request 1 1 (record { a = 0; b = 0; c = 0; d = 0 })); outcome = Out.Requested m17 }
     ∷ record { stamp = 30; event = Events.Carry (record { 0 = 0 }); outcome = Out.Accepted m17 }
-    ∷ record { stamp = 31; event = Events.Call Outside (record { 0 = 1 }) Calls.Poll; outcome = Out.Ran m17 (Some 1) (Some m18) }
+    ∷ record { stamp = 31; event = Events.Call Outside (record { 0 = 1 }) Calls.Poll; outcome = Out.Ran (Some 1) m17 (Some m18) }
     ∷ record { stamp = 32; event = Events.Call Outside (record { 0 = 0 }) (Calls.Request 1 1 (record { a = 0; b = 0; c = 0; d = 0 })); outcome = Out.Requested m19 }
     ∷ record { stamp = 33; event = Events.Carry (record { 0 = 0 }); outcome = Out.Accepted m19 }
-    ∷ record { stamp = 34; event = Events.Call Outside (record { 0 = 1 }) Calls.Poll; outcome = Out.Ran m19 (Some 1) (Some m20) }
+    ∷ record { stamp = 34; event = Events.Call Outside (record { 0 = 1 }) Calls.Poll; outcome = Out.Ran (Some 1) m19 (Some m20) }
     ∷ record { stamp = 35; event = Events.Call Outside (record { 0 = 0 }) (Calls.Request 1 1 (record { a = 0; b = 0; c = 0; d = 0 })); outcome = Out.Requested m21 }
     ∷ record { stamp = 36; event = Events.Carry (record { 0 = 0 }); outcome = Out.Accepted m21 }
-    ∷ record { stamp = 37; event = Events.Call Outside (record { 0 = 1 }) Calls.Poll; outcome = Out.Ran m21 (Some 1) (Some m22) }
+    ∷ record { stamp = 37; event = Events.Call Outside (record { 0 = 1 }) Calls.Poll; outcome = Out.Ran (Some 1) m21 (Some m22) }
     ∷ record { stamp = 38; event = Events.Call Outside (record { 0 = 0 }) (Calls.Request 1 1 (record { a = 0; b = 0; c = 0; d = 0 })); outcome = Out.Requested m23 }
     ∷ record { stamp = 39; event = Events.Carry (record { 0 = 0 }); outcome = Out.Accepted m23 }
-    ∷ record { stamp = 40; event = Events.Call Outside (record { 0 = 1 }) Calls.Poll; outcome = Out.Ran m23 (Some 1) (Some m24) }
+    ∷ record { stamp = 40; event = Events.Call Outside (record { 0 = 1 }) Calls.Poll; outcome = Out.Ran (Some 1) m23 (Some m24) }
     ∷ record { stamp = 41; event = Events.Call Outside (record { 0 = 0 }) (Calls.Request 1 1 (record { a = 0; b = 0; c = 0; d = 0 })); outcome = Out.Requested m25 }
     ∷ record { stamp = 42; event = Events.Carry (record { 0 = 0 }); outcome = Out.Accepted m25 }
-    ∷ record { stamp = 43; event = Events.Call Outside (record { 0 = 1 }) Calls.Poll; outcome = Out.Ran m25 (Some 1) (Some m26) }
+    ∷ record { stamp = 43; event = Events.Call Outside (record { 0 = 1 }) Calls.Poll; outcome = Out.Ran (Some 1) m25 (Some m26) }
     ∷ record { stamp = 44; event = Events.Call Outside (record { 0 = 0 }) (Calls.Request 1 1 (record { a = 0; b = 0; c = 0; d = 0 })); outcome = Out.Requested m27 }
     ∷ record { stamp = 45; event = Events.Carry (record { 0 = 0 }); outcome = Out.Accepted m27 }
-    ∷ record { stamp = 46; event = Events.Call Outside (record { 0 = 1 }) Calls.Poll; outcome = Out.Ran m27 (Some 1) (Some m28) }
+    ∷ record { stamp = 46; event = Events.Call Outside (record { 0 = 1 }) Calls.Poll; outcome = Out.Ran (Some 1) m27 (Some m28) }
     ∷ record { stamp = 47; event = Events.Call Outside (record { 0 = 0 }) (Calls.Request 1 1 (record { a = 0; b = 0; c = 0; d = 0 })); outcome = Out.Requested m29 }
     ∷ record { stamp = 48; event = Events.Carry (record { 0 = 0 }); outcome = Out.Accepted m29 }
-    ∷ record { stamp = 49; event = Events.Call Outside (record { 0 = 1 }) Calls.Poll; outcome = Out.Ran m29 (Some 1) (Some m30) }
+    ∷ record { stamp = 49; event = Events.Call Outside (record { 0 = 1 }) Calls.Poll; outcome = Out.Ran (Some 1) m29 (Some m30) }
     ∷ record { stamp = 50; event = Events.Call Outside (record { 0 = 0 }) (Calls.Request 1 1 (record { a = 0; b = 0; c = 0; d = 0 })); outcome = Out.Requested m31 }
     ∷ record { stamp = 51; event = Events.Carry (record { 0 = 0 }); outcome = Out.Accepted m31 }
-    ∷ record { stamp = 52; event = Events.Call Outside (record { 0 = 1 }) Calls.Poll; outcome = Out.Ran m31 (Some 1) (Some m32) }
+    ∷ record { stamp = 52; event = Events.Call Outside (record { 0 = 1 }) Calls.Poll; outcome = Out.Ran (Some 1) m31 (Some m32) }
     ∷ record { stamp = 53; event = Events.Call Outside (record { 0 = 0 }) (Calls.Request 2 1 (record { a = 0; b = 0; c = 0; d = 0 })); outcome = Out.Requested m33 }
     ∷ record { stamp = 54; event = Events.Carry (record { 0 = 0 }); outcome = Out.Accepted m33 }
     ∷ record { stamp = 55; event = Events.Call Outside (record { 0 = 1 }) Calls.Poll; outcome = Out.Blocked }
     ∷ record { stamp = 56; event = Events.Call Outside (record { 0 = 1 }) (Calls.Test NotEmpty); outcome = Out.Ready }
     ∷ record { stamp = 57; event = Events.Call Outside (record { 0 = 1 }) (Calls.Test NoEvents); outcome = Out.Quiet }
     ∷ record { stamp = 58; event = Events.Carry (record { 0 = 1 }); outcome = Out.Accepted m2 }
-    ∷ record { stamp = 59; event = Events.Call Outside (record { 0 = 1 }) Calls.Poll; outcome = Out.Ran m33 (Some 1) (Some m34) }
+    ∷ record { stamp = 59; event = Events.Call Outside (record { 0 = 1 }) Calls.Poll; outcome = Out.Ran (Some 1) m33 (Some m34) }
     ∷ []

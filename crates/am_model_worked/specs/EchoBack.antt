@@ -74,8 +74,8 @@ journal =
     ∷ record { stamp = 4; event = Events.Call Outside (record { 0 = 0 }) (Calls.Request 0 2 (record { a = 1; b = 2; c = 3; d = 4 })); outcome = Out.Requested m1 }
     ∷ record { stamp = 5; event = Events.Call Outside (record { 0 = 0 }) (Calls.Request 0 2 (record { a = 1; b = 2; c = 3; d = 4 })); outcome = Out.Refused No.NoCredit }
     ∷ record { stamp = 6; event = Events.Carry (record { 0 = 0 }); outcome = Out.Accepted m1 }
-    ∷ record { stamp = 7; event = Events.Call Outside (record { 0 = 1 }) Calls.Poll; outcome = Out.Ran m1 (Some 2) (Some m2) }
+    ∷ record { stamp = 7; event = Events.Call Outside (record { 0 = 1 }) Calls.Poll; outcome = Out.Ran (Some 2) m1 (Some m2) }
     ∷ record { stamp = 8; event = Events.Carry (record { 0 = 1 }); outcome = Out.Accepted m2 }
-    ∷ record { stamp = 9; event = Events.Call Outside (record { 0 = 0 }) Calls.Poll; outcome = Out.Ran m2 (Some 3) None }
+    ∷ record { stamp = 9; event = Events.Call Outside (record { 0 = 0 }) Calls.Poll; outcome = Out.Ran (Some 3) m2 None }
     ∷ record { stamp = 10; event = Events.Call Outside (record { 0 = 0 }) (Calls.Request 0 2 (record { a = 5; b = 6; c = 7; d = 8 })); outcome = Out.Requested m3 }
     ∷ []

@@ -62,7 +62,7 @@ journal =
     ∷ record { stamp = 3; event = Events.Call Outside (record { 0 = 0 }) (Calls.Request 0 1 (record { a = 10; b = 20; c = 30; d = 40 })); outcome = Out.Requested m1 }
     ∷ record { stamp = 4; event = Events.Carry (record { 0 = 0 }); outcome = Out.Accepted m1 }
     ∷ record { stamp = 5; event = Events.Call Outside (record { 0 = 0 }) (Calls.GiveUp (record { source = (record { 0 = 0 }); count = 1 })); outcome = Out.Done }
-    ∷ record { stamp = 6; event = Events.Call Outside (record { 0 = 1 }) Calls.Poll; outcome = Out.Ran m1 (Some 1) (Some m2) }
+    ∷ record { stamp = 6; event = Events.Call Outside (record { 0 = 1 }) Calls.Poll; outcome = Out.Ran (Some 1) m1 (Some m2) }
     ∷ record { stamp = 7; event = Events.Carry (record { 0 = 1 }); outcome = Out.Returned m2 NoRequest }
     ∷ record { stamp = 8; event = Events.Call Outside (record { 0 = 1 }) Calls.Poll; outcome = Out.Zero m2.serial (Whys.Refused NoRequest) }
     ∷ record { stamp = 9; event = Events.Call Outside (record { 0 = 0 }) (Calls.GiveUp (record { source = (record { 0 = 0 }); count = 1 })); outcome = Out.Refused No.NoRequest }

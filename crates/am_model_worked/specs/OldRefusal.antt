@@ -67,6 +67,6 @@ journal =
     ∷ record { stamp = 9; event = Events.Expire (record { 0 = 0 }) (record { 0 = 1 }) 0; outcome = Out.Sent m1 (record { 0 = 1 }) 0 1 1 2 }
     ∷ record { stamp = 10; event = Events.Receive (record { 0 = 1 }) (record { 0 = 0 }) 2; outcome = Out.Received 0 1 1 (Got.Accepted m1 2) }
     ∷ record { stamp = 11; event = Events.Receive (record { 0 = 0 }) (record { 0 = 1 }) 1; outcome = Out.Received 0 1 0 Got.Nothing }
-    ∷ record { stamp = 12; event = Events.Call Outside (record { 0 = 1 }) Calls.Poll; outcome = Out.Ran m1 (Some 1) (Some m2) }
+    ∷ record { stamp = 12; event = Events.Call Outside (record { 0 = 1 }) Calls.Poll; outcome = Out.Ran (Some 1) m1 (Some m2) }
     ∷ record { stamp = 13; event = Events.Receive (record { 0 = 0 }) (record { 0 = 1 }) 2; outcome = Out.Received 0 1 1 (Got.Delivered m1.serial) }
     ∷ []

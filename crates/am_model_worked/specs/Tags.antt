@@ -92,9 +92,9 @@ journal =
     ∷ record { stamp = 7; event = Events.Call Outside (record { 0 = 0 }) (Calls.Request 0 1 (record { a = 2; b = 0; c = 0; d = 0 })); outcome = Out.Requested m2 }
     ∷ record { stamp = 8; event = Events.Carry (record { 0 = 0 }); outcome = Out.Accepted m2 }
     ∷ record { stamp = 9; event = Events.Call Outside (record { 0 = 1 }) (Calls.SetTag (record { 0 = 0 })); outcome = Out.Refused (No.Held 1 0 0) }
-    ∷ record { stamp = 10; event = Events.Call Outside (record { 0 = 1 }) Calls.Poll; outcome = Out.Ran m2 (Some 1) (Some m3) }
+    ∷ record { stamp = 10; event = Events.Call Outside (record { 0 = 1 }) Calls.Poll; outcome = Out.Ran (Some 1) m2 (Some m3) }
     ∷ record { stamp = 11; event = Events.Carry (record { 0 = 1 }); outcome = Out.Accepted m3 }
-    ∷ record { stamp = 12; event = Events.Call Outside (record { 0 = 0 }) Calls.Poll; outcome = Out.Ran m3 None None }
+    ∷ record { stamp = 12; event = Events.Call Outside (record { 0 = 0 }) Calls.Poll; outcome = Out.Ran None m3 None }
     ∷ record { stamp = 13; event = Events.Call Outside (record { 0 = 1 }) (Calls.SetTag (record { 0 = 0 })); outcome = Out.Done }
     ∷ record { stamp = 14; event = Events.Call Outside (record { 0 = 0 }) (Calls.Request 0 1 (record { a = 3; b = 0; c = 0; d = 0 })); outcome = Out.Requested m4 }
     ∷ record { stamp = 15; event = Events.Carry (record { 0 = 0 }); outcome = Out.Returned m4 BadTag }

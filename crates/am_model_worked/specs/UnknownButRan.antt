@@ -67,7 +67,7 @@ journal =
     ∷ record { stamp = 8; event = Events.Expire (record { 0 = 0 }) (record { 0 = 1 }) 0; outcome = Out.Unknown m1.serial }
     ∷ record { stamp = 9; event = Events.Call Outside (record { 0 = 0 }) Calls.Poll; outcome = Out.Zero m1.serial Whys.Unknown }
     ∷ record { stamp = 10; event = Events.Receive (record { 0 = 1 }) (record { 0 = 0 }) 2; outcome = Out.Received 0 1 1 (Got.Accepted m1 1) }
-    ∷ record { stamp = 11; event = Events.Call Outside (record { 0 = 1 }) Calls.Poll; outcome = Out.Ran m1 (Some 1) (Some m2) }
+    ∷ record { stamp = 11; event = Events.Call Outside (record { 0 = 1 }) Calls.Poll; outcome = Out.Ran (Some 1) m1 (Some m2) }
     ∷ record { stamp = 12; event = Events.Bind (record { 0 = 1 }) (record { 0 = 1 }); outcome = Out.Sent m2 (record { 0 = 0 }) 0 1 0 2 }
     ∷ record { stamp = 13; event = Events.Receive (record { 0 = 0 }) (record { 0 = 1 }) 2; outcome = Out.Received 0 1 0 (Got.Refused m2 NoRequest 3) }
     ∷ record { stamp = 14; event = Events.Receive (record { 0 = 1 }) (record { 0 = 0 }) 3; outcome = Out.Received 0 1 0 (Got.Returned m2.serial NoRequest) }

@@ -35,7 +35,7 @@ use Rattle.am_names.specs.Names.{same_end, same_node, same_serial}
 -- the message that a call accepts
 abbrev pub accepted_by : Call → Outcome → Option Message
 accepted_by (Calls.Request index handler words) (Out.Requested m) = Some m
-accepted_by Calls.Poll (Out.Ran m handler sends) = sends
+accepted_by Calls.Poll (Out.Ran handler m sends) = sends
 accepted_by call outcome = None
 
 abbrev pub accepted_in : Event → Outcome → Option Message
@@ -61,7 +61,7 @@ put_of x = put_in x.event x.outcome
 
 -- the message that a call runs
 abbrev pub run_by : Call → Outcome → Option Message
-run_by Calls.Poll (Out.Ran m handler sends) = Some m
+run_by Calls.Poll (Out.Ran handler m sends) = Some m
 run_by call outcome = None
 
 abbrev pub run_in : Event → Outcome → Option Message

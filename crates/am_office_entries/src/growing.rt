@@ -2,8 +2,8 @@
 
 ghost use Rattle.std.specs.Prelude.{◌≤◌};
 
-/// For how many more elements a list is to make room: for one where it has that room. Else first for 64, and then for three times
-/// as many as it has, at least 960, so that elements are seldom moved.
+/// For how many more elements a list is to make room: for one where it has that room. Else first for 16, and then for three times
+/// as many as it has, at least 240, so that elements are seldom moved, and little room is left behind that they were moved from.
 pub fn growth<T>(list: &Vec<T>) -> usize
     ensures { 1 ≤ result }
 {
@@ -11,8 +11,8 @@ pub fn growth<T>(list: &Vec<T>) -> usize
     if len < list.capacity() {
         1
     } else if len == 0 {
-        64
+        16
     } else {
-        len.saturating_mul(3).max(960)
+        len.saturating_mul(3).max(240)
     }
 }

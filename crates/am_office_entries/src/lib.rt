@@ -294,10 +294,11 @@ pub enum Outcome {
         serial: Serial,
         why: Why,
     },
-    /// A poll ran this message: by a handler, if one stands, which made a reply, if the message is a request.
+    /// A poll ran this message: by a handler, if one stands, which made a reply, if the message is a request. (The handler
+    /// stands first, where it takes no room of its own: a log has an entry for each of these.)
     Ran {
-        message: Message,
         handler: Option<u8>,
+        message: Message,
         sends: Option<Message>,
     },
     /// A poll found a request and no room for its reply.
@@ -355,7 +356,7 @@ pub struct Entry {
     pub outcome: Outcome,
 }
 
-const _: () = prove!(size_of::<Entry>() <= 256);
+const _: () = prove!(size_of::<Entry>() <= 216);
 
 /// Entries in order. Contracts see the list of the entries.
 #[derive(Drop)]

@@ -65,7 +65,7 @@ grown_by_result s k result = grown_none k
 
 grown_by : (s : Serial) (k : Known) (e : Event) (o : Outcome) →
     grown k (cause_of s e o) (is_serial s (unknown_in e o)) (passes (has_serial s) (run_in e o)) ≡ known_after s k (news_in e o)
-grown_by s k (Events.Call by end Calls.Poll) (Out.Ran m h r) = grown_ran (has_serial s m) k
+grown_by s k (Events.Call by end Calls.Poll) (Out.Ran h m r) = grown_ran (has_serial s m) k
 grown_by s k (Events.Carry end) (Out.Returned m c) = grown_returned (same_serial s m.serial) k c
 grown_by s k (Events.Expire n p c) (Out.Unknown t) = grown_unknown (same_serial s t) k
 grown_by s k (Events.Receive n p number) (Out.Received channel seq attempt result) = grown_by_result s k result

@@ -21,7 +21,7 @@ use Rattle.am_office_report.specs.declared.known.News.{News}
 use Rattle.am_office_entries.specs.Entries.{accepted_of}
 use Rattle.am_office_entries.specs.Fates.{causes_of, is_unknown, is_run, fate_of_accepted}
 use Rattle.am_office_report.specs.Report.{told, listed, listed_with}
-use Rattle.am_office_report.specs.Tables.{accepted_state, accepted_with, heard_with, heard_all, messages_in, state_after, entry_after, fate_of_entry, known_of}
+use Rattle.am_office_report.specs.Tables.{accepted_state, accepted_with, kind_of, heard_with, heard_all, messages_in, state_after, entry_after, fate_of_entry, known_of}
 use Rattle.am_office_report.specs.Tables.{known_after, news_of, HasHeard}
 use Rattle.am_office_entries.proofs.Causes.{fate_by_first}
 use Rattle.am_office_report.proofs.Flat.{match_map}
@@ -88,7 +88,7 @@ heard_behind past (x ∷ xs) listed =
     ∙ ap (λ (journal : List Entry). map (state_after journal) listed) (append_assoc past (x ∷ []) xs)
 
 accepted_listed : (listed : Listed) (accepted : Option Message) →
-    accepted_with (map (state_after []) listed) accepted ≡ map (state_after []) (listed_with listed accepted)
+    accepted_with (map (state_after []) listed) (kind_of accepted) ≡ map (state_after []) (listed_with listed accepted)
 accepted_listed listed None = refl
 accepted_listed listed (Some m) = accepted_next listed m.serial m.kind
 
@@ -97,14 +97,14 @@ one_news None = refl
 one_news (Some x) = refl
 
 -- one entry more of those that are heard
-pub hears : {T E : Type 0} (r : Result T E) (old new : Heard) (past : List Entry) (x : Entry) (accepted : Option Message)
-    (found : Option (Serial × News)) → accepted ≡ accepted_of x → found ≡ news_of x → HasHeard old past →
+pub hears : {T E : Type 0} (r : Result T E) (old new : Heard) (past : List Entry) (x : Entry) (accepted : Option (Serial × MsgKind))
+    (found : Option (Serial × News)) → accepted ≡ kind_of (accepted_of x) → found ≡ news_of x → HasHeard old past →
     messages_in new.messages ≡ accepted_with (messages_in old.messages) accepted →
     OnOk r (new.news.items ≡ old.news.items ++ option_to_list found) → OnOk r (HasHeard new (past ++ x ∷ []))
 hears (Err e) old new past x accepted found is tells h table news = tt
 hears (Ok y) old new past x accepted found is tells h table news = record {
   accepted = table ∙ ap (λ (es : Entries). accepted_with es accepted) h.accepted
-      ∙ ap (λ (a : Option Message). accepted_with (map (state_after []) (listed past)) a) is
+      ∙ ap (λ (a : Option (Serial × MsgKind)). accepted_with (map (state_after []) (listed past)) a) is
       ∙ accepted_listed (listed past) (accepted_of x)
       ∙ ap (λ (ms : Listed). map (state_after []) ms) (sym (listed_more past x));
   news = news ∙ ap (λ (ns : List (Serial × News)). ns ++ option_to_list found) h.news

@@ -27,7 +27,7 @@ use Rattle.am_office_text.specs.Words.{Word, line, serial}
 
 -- what a poll ran, and at which endpoint: a handler for a message, or handler 0 for a notice; a poll that ran none has no run
 abbrev pub run_in : Event → Outcome → Option (EndpointId × Run)
-run_in (Events.Call by end Calls.Poll) (Out.Ran m (Some h) r) = Some (end, Runs.Handled m.serial h m.words)
+run_in (Events.Call by end Calls.Poll) (Out.Ran (Some h) m r) = Some (end, Runs.Handled m.serial h m.words)
 run_in (Events.Call by end Calls.Poll) (Out.Zero s w) = Some (end, Runs.Zero s w)
 run_in event outcome = None
 

@@ -46,7 +46,7 @@ news_by (Got.Returned s c) = Some (s, Latest.Returned c)
 news_by result = None
 
 abbrev pub news_in : Event → Outcome → Option (Serial × News)
-news_in (Events.Call by e Calls.Poll) (Out.Ran m h r) = Some (m.serial, Latest.Ran)
+news_in (Events.Call by e Calls.Poll) (Out.Ran h m r) = Some (m.serial, Latest.Ran)
 news_in (Events.Carry e) (Out.Returned m c) = Some (m.serial, Latest.Returned c)
 news_in (Events.Expire n p c) (Out.Unknown s) = Some (s, Latest.Unknown)
 news_in (Events.Receive n p k) (Out.Received channel seq attempt result) = news_by result
@@ -115,10 +115,20 @@ messages_in sources = entries_from 0 sources
 abbrev pub entry_after : Serial → News → Serial × MessageState → Serial × MessageState
 entry_after about news entry = (entry.0, heard_if (same_serial entry.0 about) news entry.1)
 
+-- a message's serial, if there is one
+abbrev pub serial_of : Option Message → Option Serial
+serial_of None = None
+serial_of (Some m) = Some m.serial
+
+-- a message's serial and kind, if there is one
+abbrev pub kind_of : Option Message → Option (Serial × MsgKind)
+kind_of None = None
+kind_of (Some m) = Some (m.serial, m.kind)
+
 -- the messages with one more, if it was accepted
-abbrev pub accepted_with : List (Serial × MessageState) → Option Message → List (Serial × MessageState)
+abbrev pub accepted_with : List (Serial × MessageState) → Option (Serial × MsgKind) → List (Serial × MessageState)
 accepted_with entries None = entries
-accepted_with entries (Some m) = insert_entry serial_order entries m.serial (accepted_state m.kind)
+accepted_with entries (Some (serial, kind)) = insert_entry serial_order entries serial (accepted_state kind)
 
 -- the messages after news of some message
 abbrev pub heard_with : List (Serial × MessageState) → Option (Serial × News) → List (Serial × MessageState)

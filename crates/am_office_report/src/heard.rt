@@ -4,12 +4,13 @@ ghost use Rattle.std.specs.Prelude.{◌≡◌, ◌∷◌, ◌++◌, [], List, On
 ghost use Rattle.am_office_entries.specs.declared.Entry.{Entry};
 ghost use Rattle.am_office_entries.specs.Logged.Behind.{entries_behind};
 ghost use Rattle.am_office_report.specs.Report as report;
-ghost use Rattle.am_office_report.specs.Tables.{HasHeard};
+ghost use Rattle.am_office_entries.specs.Entries.{accepted_of};
+ghost use Rattle.am_office_report.specs.Tables.{HasHeard, kind_of};
 
 use crate::known::{News, news_in};
 use crate::messages::{MessageFate, MessageTable};
-use am_names::Serial;
-use am_office_entries::{Entry, accepted_of};
+use am_names::{MsgKind, Serial};
+use am_office_entries::{Call, Entry, Event, Outcome};
 use std::alloc::{AllocError, Global};
 
 /// The accepted messages of the entries so far, and the news of messages' fates in order: these may come in front of the
@@ -18,6 +19,26 @@ use std::alloc::{AllocError, Global};
 pub(crate) struct Heard {
     pub(crate) messages: MessageTable,
     pub(crate) news: Vec<(Serial, News)>,
+}
+
+// The serial and the kind of the message that an entry accepts. The message itself, of 72 bytes, stays where it was logged.
+fn accepted_in(entry: &Entry) -> Option<(Serial, MsgKind)>
+    ensures { result ≡ kind_of (accepted_of entry.now) }
+{
+    let Event::Call { call, .. } = entry.event else {
+        return None;
+    };
+    match (call, entry.outcome) {
+        (Call::Request { .. }, Outcome::Requested(message)) => Some((message.serial, message.kind)),
+        (
+            Call::Poll,
+            Outcome::Ran {
+                sends: Some(reply),
+                ..
+            },
+        ) => Some((reply.serial, reply.kind)),
+        _ => None,
+    }
 }
 
 fn put_news(news: &mut Vec<(Serial, News)>, found: Option<(Serial, News)>) -> Result<(), AllocError>
@@ -51,7 +72,7 @@ impl Heard {
     pub(crate) fn hear(&mut self, entry: &Entry) -> Result<(), AllocError>
         ensures { (past : List Entry) → HasHeard self.old past → OnOk result (HasHeard self.new (past ++ entry.now ∷ [])) }
     {
-        self.messages.accept_of(accepted_of(entry))?;
+        self.messages.accept_of(accepted_in(entry))?;
         put_news(&mut self.news, news_in(entry))
     }
 

@@ -1,10 +1,11 @@
 //! What an entry of a journal says of a message's fate.
 
 ghost use Rattle.std.specs.Prelude.{◌≡◌};
+ghost use Rattle.am_office_entries.specs.Entries.{run_of};
 ghost use Rattle.am_office_report.specs.Tables as tables;
 
 use am_names::{Cause, Serial};
-use am_office_entries::{Entry, Fate, return_of, run_of, unknown_of};
+use am_office_entries::{Call, Entry, Event, Fate, Outcome, return_of, unknown_of};
 
 /// What an entry says of a message's fate.
 #[derive(Clone, Copy)]
@@ -63,12 +64,28 @@ impl Known {
     }
 }
 
+// The serial of the message that an entry runs. The message itself stays where it was logged.
+fn serial_run(entry: &Entry) -> Option<Serial>
+    ensures { result ≡ tables.serial_of (run_of entry.now) }
+{
+    match (entry.event, entry.outcome) {
+        (
+            Event::Call {
+                call: Call::Poll,
+                ..
+            },
+            Outcome::Ran { message, .. },
+        ) => Some(message.serial),
+        _ => None,
+    }
+}
+
 /// What an entry says of a message's fate, and of which message.
 pub(crate) fn news_in(entry: &Entry) -> Option<(Serial, News)>
     ensures { result ≡ tables.news_in entry.now.event entry.now.outcome }
 {
-    if let Some(message) = run_of(entry) {
-        return Some((message.serial, News::Ran));
+    if let Some(serial) = serial_run(entry) {
+        return Some((serial, News::Ran));
     }
     if let Some(serial) = unknown_of(entry) {
         return Some((serial, News::Unknown));

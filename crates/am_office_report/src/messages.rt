@@ -5,7 +5,7 @@ ghost use Rattle.am_office_report.specs.Tables.{source_entry, fate_of_entry};
 
 use crate::known::News;
 use crate::sources::{MessageState, SourceMessages};
-use am_names::{EndpointId, Message, MsgKind, Serial};
+use am_names::{EndpointId, MsgKind, Serial};
 use am_office_entries::Fate;
 use std::alloc::{AllocError, Global};
 use std::marker::Model;
@@ -81,11 +81,10 @@ impl MessageTable {
         Ok(MessageTable { sources })
     }
 
-    fn accept(&mut self, message: Message) -> Result<(), AllocError>
-        ensures { OnOk result (messages_in self.new ≡ insert_entry serial_order (messages_in self.old) message.serial (accepted_state message.kind)) }
+    fn accept(&mut self, serial: Serial, kind: MsgKind) -> Result<(), AllocError>
+        ensures { OnOk result (messages_in self.new ≡ insert_entry serial_order (messages_in self.old) serial (accepted_state kind)) }
     {
-        let serial = message.serial;
-        self.sources[usize::from(serial.source.0)].accept(serial.count, message.kind)
+        self.sources[usize::from(serial.source.0)].accept(serial.count, kind)
     }
 
     fn learn(&mut self, serial: Serial, news: News)
@@ -95,12 +94,15 @@ impl MessageTable {
     }
 
     /// Enters an accepted message, if there is one, with nothing known of its fate.
-    pub(crate) fn accept_of(&mut self, accepted: Option<Message>) -> Result<(), AllocError>
+    pub(crate) fn accept_of(
+        &mut self,
+        accepted: Option<(Serial, MsgKind)>,
+    ) -> Result<(), AllocError>
         ensures { OnOk result (messages_in self.new ≡ accepted_with (messages_in self.old) accepted) }
     {
         match accepted {
             None => Ok(()),
-            Some(message) => self.accept(message),
+            Some((serial, kind)) => self.accept(serial, kind),
         }
     }
 

@@ -113,6 +113,13 @@ fn put_ends(out: &mut Vec<u8>, table: &RunTable, ends: &[EndpointId]) -> Result<
     Ok(())
 }
 
+// Appends the parts of these endpoints, and gives the memory of the table back.
+fn end_parts(out: &mut Vec<u8>, table: RunTable, ends: &[EndpointId]) -> Result<(), AllocError>
+    ensures { (journal : List Entry) → AreRuns table journal → OnOk result (out.new.items ≡ out.old.items ++ flat_map (text.end_part journal) ends.now) }
+{
+    put_ends(out, &table, ends)
+}
+
 /// Appends the words of a fate, each after a space, as the report's line of a message ends. What was there stays, also after
 /// an error.
 #[tactic(auto, unfolding(crate::specs::Report::fate, am_office_text::specs::Words::spaced))]
@@ -236,7 +243,7 @@ fn text(alloc: Global, ends: &[EndpointId], entries: &[&Entry]) -> Result<Vec<u8
     put_line(&mut out, "am2", &[Text("report"), Text("1")])?;
     put_count(&mut out, entries)?;
     walk(&mut out, &mut runs, &mut heard, entries)?;
-    put_ends(&mut out, &runs, ends)?;
+    end_parts(&mut out, runs, ends)?;
     let messages = heard.told(alloc)?;
     put_messages(&mut out, &messages)?;
     Ok(out)

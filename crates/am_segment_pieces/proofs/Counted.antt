@@ -2,6 +2,7 @@
 use Rattle.std.proofs.Common.{◌≡◌, ℕ, ◌<◌, ◌≤◌, ◌+◌, Bool, true, false, ◌&&◌, ◌||◌, cond, Option, Some, None, List, [], ◌∷◌, ◌++◌, refl, sym, ap, ◌∙◌, zero-add, arith}
 use Rattle.std.proofs.Common.{count_by, map, length, take, drop, get_or, nat_eq, if◌then◌else◌, add-one}
 use Rattle.std.specs.List.{range_with_len}
+use Rattle.std.specs.Option.{option_and_then, option_map}
 use Rattle.std.proofs.lemmas.List.FromFn.{sum_by-map-range_with_len_more}
 use Rattle.std.specs.HashSet.{HashSet, contains}
 use Rattle.std.specs.declared.hash.FoldHasher.{FoldHasher}
@@ -12,13 +13,10 @@ use Rattle.std.proofs.Math.Seq.{take-suc}
 use Rattle.am_names.specs.declared.EndpointId.{EndpointId}
 use Rattle.am_names.specs.declared.Words.{Words}
 use Rattle.am_names.specs.Names.{same_end}
-use Rattle.am_office_entries.specs.declared.Call.TheVariants as Calls
-use Rattle.am_office_entries.specs.declared.Event.{Event}
-use Rattle.am_office_entries.specs.declared.Event.TheVariants as Events
-use Rattle.am_office_entries.specs.declared.Outcome.{Outcome}
-use Rattle.am_office_entries.specs.declared.Outcome.TheVariants as Out
 use Rattle.std.specs.Borrow.{Bor}
 use Rattle.am_office_entries.specs.declared.Entry.{Entry}
+use Rattle.am_library_views.specs.declared.entries.HandlerRun.{HandlerRun}
+use Rattle.am_library_views.specs.Views.{handler_run_of}
 use Rattle.am_office_entries.specs.Logged.Behind.{entries_behind}
 use Rattle.am_office_entries.proofs.Entries.{behind_at, length_behind}
 use Rattle.am_segment_pieces.specs.declared.ran.Run.{Run}
@@ -28,23 +26,23 @@ use Rattle.am_segment_pieces.specs.declared.parts.Piece.{Piece}
 use Rattle.am_segment_pieces.specs.Lists.{TransferLists}
 use Rattle.am_segment_pieces.specs.Pieces.{words_of}
 use Rattle.am_segment_pieces.specs.Blocks.{piece_at, piece_count}
-use Rattle.am_segment_pieces.specs.Runs.{TellsRuns, has_key, is_key, key_in, run_key, same_run}
-use Rattle.am_segment_pieces.specs.Segments.{has_run, has_words, run_words, same_words, ran_count, ran_of, ran_from}
+use Rattle.am_segment_pieces.specs.Runs.{TellsRuns, has_key, is_key, key_in, key_of, run_key, same_run}
+use Rattle.am_segment_pieces.specs.Segments.{has_run, has_words, same_words, ran_count, ran_of, ran_from, words_if}
 
 abbrev Set : Type 0
 Set = HashSet Run (BuildHasherDefault FoldHasher)
 
 -- one entry more
 key_next : (xs : List Entry) (i : ℕ) (d : Entry) (run : Run) → i < length xs →
-    has_key (take (i + 1) xs) run ≡ (has_key (take i xs) run || (is_key run (key_in (get_or xs i d).event (get_or xs i d).outcome) || false))
+    has_key (take (i + 1) xs) run ≡ (has_key (take i xs) run || (is_key run (key_in (get_or xs i d)) || false))
 key_next xs i d run below =
-    rw (add-one, take-suc xs i d below) (list_any-append (λ (x : Entry). is_key run (key_in x.event x.outcome)) (take i xs) (get_or xs i d ∷ []))
+    rw (add-one, take-suc xs i d below) (list_any-append (λ (x : Entry). is_key run (key_in x)) (take i xs) (get_or xs i d ∷ []))
 
 or_false : (b : Bool) → (b || (false || false)) ≡ b
 or_false true = refl
 or_false false = refl
 
-pub tells_none : (set : Set) (xs : List Entry) (i : ℕ) (d : Entry) → i < length xs → key_in (get_or xs i d).event (get_or xs i d).outcome ≡ None →
+pub tells_none : (set : Set) (xs : List Entry) (i : ℕ) (d : Entry) → i < length xs → key_in (get_or xs i d) ≡ None →
     TellsRuns set (take i xs) → TellsRuns set (take (i + 1) xs)
 tells_none set xs i d below none tells = record {
   each = λ (run : Run).
@@ -59,7 +57,7 @@ or_some false true = refl
 or_some false false = refl
 
 pub tells_some : (set new : Set) (added : Run) (xs : List Entry) (i : ℕ) (d : Entry) → i < length xs →
-    key_in (get_or xs i d).event (get_or xs i d).outcome ≡ Some added →
+    key_in (get_or xs i d) ≡ Some added →
     ((run : Run) → contains same_run new run ≡ cond (same_run added run) true (contains same_run set run)) → TellsRuns set (take i xs) →
     TellsRuns new (take (i + 1) xs)
 tells_some set new added xs i d below some put tells = record {
@@ -73,19 +71,19 @@ tells_some set new added xs i d below some put tells = record {
 -- ---- the same behind references
 
 pub tells_none_behind : (set : Set) (xs : List (Bor Entry)) (i : ℕ) (d : Bor Entry) → i < length xs →
-    key_in (get_or xs i d).now.event (get_or xs i d).now.outcome ≡ None → TellsRuns set (take i (entries_behind xs)) →
+    key_in (get_or xs i d).now ≡ None → TellsRuns set (take i (entries_behind xs)) →
     TellsRuns set (take (i + 1) (entries_behind xs))
 tells_none_behind set xs i d below none tells =
     tells_none set (entries_behind xs) i d.now (omega (arith, length_behind xs, below))
-    (ap (λ (e : Entry). key_in e.event e.outcome) (behind_at xs i d d.now below) ∙ none) tells
+    (ap (λ (e : Entry). key_in e) (behind_at xs i d d.now below) ∙ none) tells
 
 pub tells_some_behind : (set new : Set) (added : Run) (xs : List (Bor Entry)) (i : ℕ) (d : Bor Entry) → i < length xs →
-    key_in (get_or xs i d).now.event (get_or xs i d).now.outcome ≡ Some added →
+    key_in (get_or xs i d).now ≡ Some added →
     ((run : Run) → contains same_run new run ≡ cond (same_run added run) true (contains same_run set run)) → TellsRuns set (take i (entries_behind xs)) →
     TellsRuns new (take (i + 1) (entries_behind xs))
 tells_some_behind set new added xs i d below some put tells =
     tells_some set new added (entries_behind xs) i d.now (omega (arith, length_behind xs, below))
-    (ap (λ (e : Entry). key_in e.event e.outcome) (behind_at xs i d d.now below) ∙ some) put tells
+    (ap (λ (e : Entry). key_in e) (behind_at xs i d d.now below) ∙ some) put tells
 
 -- ---- a run with these words
 
@@ -95,16 +93,15 @@ gated true false ran words = refl
 gated false true ran words = refl
 gated false false ran words = refl
 
-same_test : (end : EndpointId) (handler : ℕ) (words : Words) (event : Event) (outcome : Outcome) →
-    is_key (run_key end handler words) (key_in event outcome) ≡ has_words words (run_words end handler event outcome)
-same_test end handler words (Events.Call actor polled Calls.Poll) (Out.Ran message (Some ran) sends) =
-    sym (gated (same_end polled end) (nat_eq ran handler) message.words words)
-same_test end handler words event outcome = refl
+same_test : (end : EndpointId) (handler : ℕ) (words : Words) (o : Option HandlerRun) →
+    is_key (run_key end handler words) (option_map key_of o) ≡ has_words words (option_and_then (words_if end handler) o)
+same_test end handler words None = refl
+same_test end handler words (Some run) = sym (gated (same_end run.end end) (nat_eq run.handler handler) run.words words)
 
 pub key_is_run : (journal : List Entry) (end : EndpointId) (handler : ℕ) (words : Words) →
     has_key journal (run_key end handler words) ≡ has_run journal end handler words
 key_is_run [] end handler words = refl
-key_is_run (x ∷ xs) end handler words = rw (same_test end handler words x.event x.outcome, key_is_run xs end handler words) refl
+key_is_run (x ∷ xs) end handler words = rw (same_test end handler words (handler_run_of x), key_is_run xs end handler words) refl
 
 -- ---- one transfer more
 

@@ -6,12 +6,9 @@ use Rattle.std.specs.List.{list_any, range_with_len}
 use Rattle.am_names.specs.declared.EndpointId.{EndpointId}
 use Rattle.am_names.specs.declared.Words.{Words}
 use Rattle.am_names.specs.Names.{same_end}
-use Rattle.am_office_entries.specs.declared.Call.TheVariants as Calls
-use Rattle.am_office_entries.specs.declared.Event.{Event}
-use Rattle.am_office_entries.specs.declared.Event.TheVariants as Events
-use Rattle.am_office_entries.specs.declared.Outcome.{Outcome}
-use Rattle.am_office_entries.specs.declared.Outcome.TheVariants as Out
 use Rattle.am_office_entries.specs.declared.Entry.{Entry}
+use Rattle.am_library_views.specs.declared.entries.HandlerRun.{HandlerRun}
+use Rattle.am_library_views.specs.Views.{handler_run_of}
 use Rattle.am_segment_pieces.specs.declared.parts.Piece.{Piece}
 use Rattle.am_segment_pieces.specs.declared.segment.SegmentLine.{SegmentLine}
 use Rattle.am_segment_pieces.specs.declared.ran.TransferRan.{TransferRan}
@@ -19,15 +16,13 @@ use Rattle.am_segment_pieces.specs.Lists.{TransferLists}
 use Rattle.am_segment_pieces.specs.Pieces.{piece_of, words_of}
 use Rattle.am_segment_pieces.specs.Blocks.{piece_count, pieces_of}
 
--- the words with which this handler of this endpoint ran
-abbrev pub run_words : EndpointId → ℕ → Event → Outcome → Option Words
-run_words end handler (Events.Call actor polled Calls.Poll) (Out.Ran message (Some ran) sends) =
-    if same_end polled end && (ran == handler) then Some message.words else None
-run_words end handler event outcome = None
+-- the words of a run, if it is one of this handler of this endpoint
+abbrev pub words_if : EndpointId → ℕ → HandlerRun → Option Words
+words_if end handler run = if same_end run.end end && (run.handler == handler) then Some run.words else None
 
 -- the words with which an entry runs it
 abbrev pub words_run : EndpointId → ℕ → Entry → Option Words
-words_run end handler x = run_words end handler x.event x.outcome
+words_run end handler x = option_and_then (words_if end handler) (handler_run_of x)
 
 -- ---- the segment
 

@@ -10,9 +10,10 @@ ghost use Rattle.am_segment_pieces.specs.Runs.{TellsRuns, key_in, run_key};
 use crate::parts::Piece;
 use crate::segment::SegmentLine;
 use crate::transfer::Transfer;
+use am_library_views::handler_run_of;
 use am_names::{EndpointId, Words};
 use am_office_entries::logged::LoggedJournal;
-use am_office_entries::{Call, Entry, Event, NoMemory, Outcome};
+use am_office_entries::{Entry, NoMemory};
 use std::alloc::Global;
 use std::collections::HashSet;
 
@@ -53,23 +54,11 @@ fn run_key(end: EndpointId, handler: u8, words: Words) -> Run
 
 // The run that an entry is, if it is one.
 fn run_in(entry: &Entry) -> Option<Run>
-    ensures { result ≡ key_in entry.now.event entry.now.outcome }
+    ensures { result ≡ key_in entry.now }
 {
-    let Event::Call {
-        end,
-        call: Call::Poll,
-        ..
-    } = entry.event
-    else {
-        return None;
-    };
-    match entry.outcome {
-        Outcome::Ran {
-            message,
-            handler: Some(handler),
-            ..
-        } => Some(run_key(end, handler, message.words)),
-        _ => None,
+    match handler_run_of(entry) {
+        Some(run) => Some(run_key(run.end, run.handler, run.words)),
+        None => None,
     }
 }
 

@@ -2,13 +2,14 @@
 
 ghost use Rattle.std.specs.Prelude.{◌≡◌, ◌≤◌, ◌<◌, ◌+◌, ℕ, IfOk, IfSome, length, replicate, slice_index};
 ghost use Rattle.am_office_entries.specs.Logged.Behind.{entries_behind};
-ghost use Rattle.am_segment_pieces.specs.Segments.{after_write, byte_after, run_words, segment_bytes, written_by};
+ghost use Rattle.am_segment_pieces.specs.Segments.{after_write, byte_after, segment_bytes, words_run, written_by};
 
 use crate::decode::piece;
 use crate::parts::Piece;
+use am_library_views::handler_run_of;
 use am_names::{EndpointId, Words};
 use am_office_entries::logged::LoggedJournal;
-use am_office_entries::{Call, Entry, Event, NoMemory, Outcome};
+use am_office_entries::{Entry, NoMemory};
 use std::alloc::Global;
 
 /// A segment of an endpoint: the pieces that run one of its handlers are written there.
@@ -21,24 +22,12 @@ pub struct SegmentLine {
     pub size: u32,
 }
 
-/// The words with which an entry runs this handler of this endpoint, if it does.
-pub(crate) fn run_words(end: EndpointId, handler: u8, entry: &Entry) -> Option<Words>
-    ensures { result ≡ run_words end handler entry.now.event entry.now.outcome }
+// The words with which an entry runs this handler of this endpoint, if it does.
+fn words_run(end: EndpointId, handler: u8, entry: &Entry) -> Option<Words>
+    ensures { result ≡ words_run end handler entry.now }
 {
-    let Event::Call {
-        end: polled,
-        call: Call::Poll,
-        ..
-    } = entry.event
-    else {
-        return None;
-    };
-    match entry.outcome {
-        Outcome::Ran {
-            message,
-            handler: Some(ran),
-            ..
-        } if polled.0 == end.0 && ran == handler => Some(message.words),
+    match handler_run_of(entry) {
+        Some(run) if run.end.0 == end.0 && run.handler == handler => Some(run.words),
         _ => None,
     }
 }
@@ -50,7 +39,7 @@ fn written_by(segment: &SegmentLine, entry: &Entry) -> Option<Piece>
     ensures fits { IfSome result (λ piece. piece.offset + piece.len ≤ segment.now.size) }
     ensures short { IfSome result (λ piece. piece.len ≤ 24) }
 {
-    let words = run_words(segment.end, segment.handler, entry)?;
+    let words = words_run(segment.end, segment.handler, entry)?;
     let piece = piece(words)?;
     if u64::from(piece.offset) + u64::from(piece.len) <= u64::from(segment.size) {
         Some(piece)

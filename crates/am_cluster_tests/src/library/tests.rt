@@ -3,7 +3,7 @@
 ghost use Rattle.std.specs.Thread.{IsSync};
 
 use crate::library::drafts::{CLIENT, SERVER, draft, words};
-use am_library::{Account, AtOnce, BySeed, DrainAlone, Runner, first_word_at, sum_at};
+use am_library::{Account, AtOnce, BySeed, DrainAlone, RunDraft, Runner, first_word_at, sum_at};
 use am_names::{Cause, Serial, Words};
 use am_office_entries::Fate;
 use std::alloc::Global;

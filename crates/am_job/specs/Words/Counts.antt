@@ -7,11 +7,9 @@ use Rattle.std.specs.List.Sorted.{IsStrictlySortedBy}
 use Rattle.std.specs.Map.{lookup}
 use Rattle.std.specs.Option.{option_and_then}
 use Rattle.std.specs.Ordering.{nat_cmp}
-use Rattle.am_names.specs.declared.Message.{Message}
 use Rattle.am_office_entries.specs.declared.Call.{Call}
-use Rattle.am_office_entries.specs.declared.Call.TheVariants.{Request}
 use Rattle.am_office_entries.specs.declared.Entry.{Entry}
-use Rattle.am_office_entries.specs.Entries.{run_of}
+use Rattle.am_library_views.specs.Ends.{words_in, words_run_of}
 use Rattle.am_job.specs.declared.words.tally.Count.{Count}
 use Rattle.am_job.specs.Words.Codes.{word_in}
 use Rattle.am_job.specs.Words.Lists.{WordCountLists}
@@ -26,12 +24,11 @@ times words word = count_by (same_word word) words
 
 -- the word that a call sends, if it sends one
 abbrev pub word_asked : Call → Option (List ℕ)
-word_asked (Request index handler words) = word_in words
-word_asked call = None
+word_asked call = option_and_then word_in (words_in call)
 
 -- the word that an entry runs, if it runs one
 abbrev pub word_run : Entry → Option (List ℕ)
-word_run x = option_and_then (λ (m : Message). word_in m.words) (run_of x)
+word_run x = option_and_then word_in (words_run_of x)
 
 -- the words that a journal runs, in order
 abbrev pub words_run : List Entry → List (List ℕ)

@@ -7,9 +7,10 @@ ghost use Rattle.am_job.specs.Words.Spelled.{spelled};
 
 use crate::words::rows::WordCount;
 use crate::words::spelled::{Spelled, word_in};
+use am_library_views::{words_in, words_run_of};
 use am_names::NoMemory;
 use am_office_entries::logged::LoggedJournal;
-use am_office_entries::{Call, Entry, run_of};
+use am_office_entries::{Call, Entry};
 use std::alloc::Global;
 use std::collections::BTreeMap;
 use std::marker::Model;
@@ -43,9 +44,9 @@ fn word_asked(call: &Call) -> Option<Spelled>
     ensures exact { option_map spelled result ≡ word_asked call.now }
     ensures short { IfSome result (λ word. word.len ≤ 24) }
 {
-    match *call {
-        Call::Request { words, .. } => word_in(words),
-        _ => None,
+    match words_in(call) {
+        Some(words) => word_in(words),
+        None => None,
     }
 }
 
@@ -54,8 +55,8 @@ fn word_run(entry: &Entry) -> Option<Spelled>
     ensures exact { option_map spelled result ≡ word_run entry.now }
     ensures short { IfSome result (λ word. word.len ≤ 24) }
 {
-    match run_of(entry) {
-        Some(message) => word_in(message.words),
+    match words_run_of(entry) {
+        Some(words) => word_in(words),
         None => None,
     }
 }

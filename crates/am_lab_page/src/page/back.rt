@@ -72,8 +72,14 @@ const rows = all('g');
 const bands = all('rect.band').map((element, node) => ({ element, node, left: number(element, 'x'), right: number(element, 'x') + number(element, 'width') }));
 const arrows = [...all('line[marker-end]'), ...all('path[marker-end]')];
 const crosses = all('use[stroke-dasharray]').filter((it) => /^#lost-/.test(it.getAttribute('href')) && number(it, 'y') > TOP);
-const bottom = TOP + unit * rows.length;
-const rowAtY = (y) => Math.min(rows.length - 1, Math.max(0, Math.round((y - TOP - half) / unit)));
+const perPage = unit === 18 ? 50 : 300, pageHigh = unit * perPage + 18;  // behind each page stand the heads again, 18 pixels high
+const drawnTop = (row) => TOP + unit * row + 18 * Math.floor(row / perPage);
+const bottom = drawnTop(rows.length);
+const rowAtY = (y) => {
+  const page = Math.floor((y - TOP) / pageHigh);
+  const row = page * perPage + Math.round((y - TOP - page * pageHigh - half) / unit);
+  return Math.min(rows.length - 1, Math.max(0, row));
+};
 const lanes = [];
 
 // what stands in a head, behind its title
@@ -171,7 +177,7 @@ const moveInRow = (element) => {
 };
 const moveRow = (group, row) => {
   let sideways = null;
-  const was = TOP + unit * row + half;
+  const was = drawnTop(row) + half;
   movers.push((atX, atY, folds) => {
     group.setAttribute('transform', `translate(0 ${atY(was) - was})`);
     if (!folds && sideways === null) return;

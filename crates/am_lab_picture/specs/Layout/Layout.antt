@@ -1,5 +1,5 @@
 -- Where things lie in the picture. All lengths are pixels; x grows to the right, y downwards.
-use Rattle.std.specs.Prelude.{ℕ, ◌≤◌, ◌<◌, ◌^◌, Bool, true, false, ◌+◌, ◌-◌, ◌*◌, ◌%◌, ◌&&◌, ◌==◌, nat_lt, nat_le, min, max, List, [], ◌∷◌, length, count_by}
+use Rattle.std.specs.Prelude.{ℕ, ◌≤◌, ◌<◌, ◌^◌, Bool, true, false, ◌+◌, ◌-◌, ◌*◌, ◌/◌, ◌%◌, ◌&&◌, ◌==◌, nat_lt, nat_le, min, max, List, [], ◌∷◌, length, count_by}
 use Rattle.std.specs.Prelude.{if◌then◌else◌}
 use Rattle.am_names.specs.declared.EndpointId.{EndpointId}
 use Rattle.am_names.specs.declared.NodeId.{NodeId}
@@ -20,9 +20,13 @@ pub record IsDrawable (p : PictureLists) : Type 0 where
 abbrev pub has_text : PictureLists → Bool
 has_text p = nat_le (length p.rows) 400
 
--- the height of so many rows
+-- of so many rows, how many times the heads of the lanes stand behind a page of them: of 50 rows, or of 300 low ones
+abbrev pub pages : PictureLists → ℕ → ℕ
+pages p rows = if has_text p then rows / 50 else rows / 300
+
+-- the height of so many rows, with 18 pixels for the heads behind each page
 abbrev pub height_of : PictureLists → ℕ → ℕ
-height_of p rows = if has_text p then 18 * rows else 3 * rows
+height_of p rows = (if has_text p then 18 * rows else 3 * rows) + 18 * pages p rows
 
 abbrev pub half_row : PictureLists → ℕ
 half_row p = if has_text p then 9 else 1

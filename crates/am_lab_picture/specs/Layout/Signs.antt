@@ -123,7 +123,7 @@ sign_of event Out.Done = done_sign event
 sign_of event (Out.Requested message) = codes "#request"
 sign_of event (Out.Refused refusal) = codes "#refused"
 sign_of event (Out.Zero serial why) = codes "#notice"
-sign_of event (Out.Ran message handler sends) = codes "#run"
+sign_of event (Out.Ran handler message sends) = codes "#run"
 sign_of event Out.Blocked = codes "#blocked"
 sign_of event Out.Empty = codes "#nothing"
 sign_of event Out.Ready = codes "#done"
@@ -145,7 +145,7 @@ handler_text None = codes "-"
 handler_text (Some handler) = decimal handler
 
 abbrev pub inner_of : Outcome → Option Word
-inner_of (Out.Ran message handler sends) = Some (handler_text handler)
+inner_of (Out.Ran handler message sends) = Some (handler_text handler)
 inner_of (Out.Zero serial why) = Some (codes "0")
 inner_of outcome = None
 
@@ -176,7 +176,7 @@ received_label result = None
 -- beside the sign: the serial of a request, or of the reply of a run; or why something was refused or failed
 abbrev pub label_of : Outcome → Option Word
 label_of (Out.Requested message) = Some (texts.serial message.serial)
-label_of (Out.Ran message handler sends) = reply_text sends
+label_of (Out.Ran handler message sends) = reply_text sends
 label_of (Out.Refused refusal) = Some (refusal_text refusal)
 label_of (Out.Zero serial why) = Some (texts.why why)
 label_of Out.Failed = Some (codes "failed")

@@ -18,16 +18,30 @@ pub fn has_text(picture: &Picture) -> bool
     picture.rows.len() <= 400
 }
 
+/// How many times the heads of the lanes stand behind a page of so many rows.
+pub fn pages(picture: &Picture, rows: u64) -> u64
+    requires { rows ≤ 20000 }
+    ensures exact { result ≡ layout.pages picture.now rows }
+    ensures few { result ≤ 400 }
+{
+    if has_text(picture) {
+        rows / 50
+    } else {
+        rows / 300
+    }
+}
+
 fn height_of(picture: &Picture, rows: u64) -> u64
     requires { rows ≤ 20000 }
     ensures exact { result ≡ layout.height_of picture.now rows }
-    ensures low { result ≤ 360000 }
+    ensures low { result ≤ 370000 }
 {
-    if has_text(picture) {
+    let height = if has_text(picture) {
         18 * rows
     } else {
         3 * rows
-    }
+    };
+    height + 18 * pages(picture, rows)
 }
 
 fn half_row(picture: &Picture) -> u64

@@ -130,15 +130,15 @@ journal =
     ∷ record { stamp = 16; event = Events.Expire (record { 0 = 0 }) (record { 0 = 1 }) 0; outcome = Out.Sent message_1_1 (record { 0 = 1 }) 0 2 1 3 }
     ∷ record { stamp = 17; event = Events.Receive (record { 0 = 1 }) (record { 0 = 0 }) 3; outcome = Out.Received 0 2 1 (Got.Accepted message_1_1 2) }
     ∷ record { stamp = 18; event = Events.Receive (record { 0 = 0 }) (record { 0 = 1 }) 2; outcome = Out.Received 0 2 1 (Got.Delivered message_1_1.serial) }
-    ∷ record { stamp = 19; event = Events.Call (Thread 2) (record { 0 = 2 }) Calls.Poll; outcome = Out.Ran message_0_1 (Some 3) (Some message_2_1) }
+    ∷ record { stamp = 19; event = Events.Call (Thread 2) (record { 0 = 2 }) Calls.Poll; outcome = Out.Ran (Some 3) message_0_1 (Some message_2_1) }
     ∷ record { stamp = 20; event = Events.Bind (record { 0 = 1 }) (record { 0 = 2 }); outcome = Out.Sent message_2_1 (record { 0 = 0 }) 0 1 0 3 }
     ∷ record { stamp = 21; event = Events.Receive (record { 0 = 0 }) (record { 0 = 1 }) 3; outcome = Out.Received 0 1 0 (Got.Accepted message_2_1 4) }
     ∷ record { stamp = 22; event = Events.Receive (record { 0 = 1 }) (record { 0 = 0 }) 4; outcome = Out.Received 0 1 0 (Got.Delivered message_2_1.serial) }
-    ∷ record { stamp = 23; event = Events.Call (Thread 0) (record { 0 = 0 }) Calls.Poll; outcome = Out.Ran message_2_1 (Some 4) None }
+    ∷ record { stamp = 23; event = Events.Call (Thread 0) (record { 0 = 0 }) Calls.Poll; outcome = Out.Ran (Some 4) message_2_1 None }
     ∷ record { stamp = 24; event = Events.Call (Thread 1) (record { 0 = 1 }) Calls.Poll; outcome = Out.Empty }
-    ∷ record { stamp = 25; event = Events.Call (Thread 2) (record { 0 = 2 }) Calls.Poll; outcome = Out.Ran message_1_1 (Some 3) (Some message_2_2) }
+    ∷ record { stamp = 25; event = Events.Call (Thread 2) (record { 0 = 2 }) Calls.Poll; outcome = Out.Ran (Some 3) message_1_1 (Some message_2_2) }
     ∷ record { stamp = 26; event = Events.Bind (record { 0 = 1 }) (record { 0 = 2 }); outcome = Out.Sent message_2_2 (record { 0 = 0 }) 0 2 0 4 }
     ∷ record { stamp = 27; event = Events.Receive (record { 0 = 0 }) (record { 0 = 1 }) 4; outcome = Out.Received 0 2 0 (Got.Accepted message_2_2 5) }
     ∷ record { stamp = 28; event = Events.Receive (record { 0 = 1 }) (record { 0 = 0 }) 5; outcome = Out.Received 0 2 0 (Got.Delivered message_2_2.serial) }
-    ∷ record { stamp = 29; event = Events.Call Outside (record { 0 = 1 }) Calls.Poll; outcome = Out.Ran message_2_2 (Some 4) None }
+    ∷ record { stamp = 29; event = Events.Call Outside (record { 0 = 1 }) Calls.Poll; outcome = Out.Ran (Some 4) message_2_2 None }
     ∷ []

@@ -75,7 +75,7 @@ journal =
     ∷ record { stamp = 7; event = Events.Expire (record { 0 = 0 }) (record { 0 = 0 }) 0; outcome = Out.Sent request (record { 0 = 0 }) 0 1 1 2 }
     ∷ record { stamp = 8; event = Events.Receive (record { 0 = 0 }) (record { 0 = 0 }) 2; outcome = Out.Received 0 1 1 (Got.Accepted request 3) }
     ∷ record { stamp = 9; event = Events.Expire (record { 0 = 0 }) (record { 0 = 0 }) 0; outcome = Out.Unknown request.serial }
-    ∷ record { stamp = 10; event = Events.Call (Thread 0) (record { 0 = 1 }) Calls.Poll; outcome = Out.Ran request (Some 1) (Some message_1_1) }
+    ∷ record { stamp = 10; event = Events.Call (Thread 0) (record { 0 = 1 }) Calls.Poll; outcome = Out.Ran (Some 1) request (Some message_1_1) }
     ∷ record { stamp = 11; event = Events.Bind (record { 0 = 0 }) (record { 0 = 1 }); outcome = Out.Sent message_1_1 (record { 0 = 0 }) 0 2 0 4 }
     ∷ record { stamp = 12; event = Events.Receive (record { 0 = 0 }) (record { 0 = 0 }) 4; outcome = Out.Received 0 2 0 (Got.Refused message_1_1 NoRequest 5) }
     ∷ record { stamp = 13; event = Events.Receive (record { 0 = 0 }) (record { 0 = 0 }) 5; outcome = Out.Received 0 2 0 (Got.Returned message_1_1.serial NoRequest) }

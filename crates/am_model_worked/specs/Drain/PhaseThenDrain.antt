@@ -71,11 +71,11 @@ journal =
     ∷ record { stamp = 9; event = Events.Bind (record { 0 = 0 }) (record { 0 = 0 }); outcome = Out.Sent request (record { 0 = 0 }) 0 2 0 3 }
     ∷ record { stamp = 10; event = Events.Receive (record { 0 = 0 }) (record { 0 = 0 }) 3; outcome = Out.Received 0 2 0 (Got.Accepted request 4) }
     ∷ record { stamp = 11; event = Events.Receive (record { 0 = 0 }) (record { 0 = 0 }) 4; outcome = Out.Received 0 2 0 (Got.Delivered request.serial) }
-    ∷ record { stamp = 12; event = Events.Call Outside (record { 0 = 1 }) Calls.Poll; outcome = Out.Ran request (Some 1) (Some message_1_1) }
+    ∷ record { stamp = 12; event = Events.Call Outside (record { 0 = 1 }) Calls.Poll; outcome = Out.Ran (Some 1) request (Some message_1_1) }
     ∷ record { stamp = 13; event = Events.Bind (record { 0 = 0 }) (record { 0 = 1 }); outcome = Out.Sent message_1_1 (record { 0 = 0 }) 0 3 0 5 }
     ∷ record { stamp = 14; event = Events.Receive (record { 0 = 0 }) (record { 0 = 0 }) 5; outcome = Out.Received 0 3 0 (Got.Accepted message_1_1 6) }
     ∷ record { stamp = 15; event = Events.Receive (record { 0 = 0 }) (record { 0 = 0 }) 6; outcome = Out.Received 0 3 0 (Got.Delivered message_1_1.serial) }
-    ∷ record { stamp = 16; event = Events.Call Outside (record { 0 = 0 }) Calls.Poll; outcome = Out.Ran message_1_1 None None }
+    ∷ record { stamp = 16; event = Events.Call Outside (record { 0 = 0 }) Calls.Poll; outcome = Out.Ran None message_1_1 None }
     ∷ []
 
 -- what is made before the drain

@@ -1,6 +1,6 @@
 use Rattle.std.proofs.Common.{rules, List, ◌≡◌, ◌≢◌, ◌+◌, ℕ, [], length, sym, subst, ◌∙◌, arith}
 use Rattle.am_names.specs.declared.Words.{Words}
-use Rattle.am_library.specs.declared.round_sum.RoundSum.{RoundSum}
+use Rattle.am_library_views.specs.declared.round_sum.RoundSum.{RoundSum}
 use Rattle.am_example_reduce.specs.Rounds.{Asks}
 use Rattle.am_example_reduce.specs.Sums.{IsAfter}
 use Rattle.am_example_reduce.proofs.Outcomes.{after_more, after_none, are_notes, is_open, left_none, left_some, round_none, whole}

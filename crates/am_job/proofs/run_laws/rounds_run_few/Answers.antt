@@ -1,4 +1,4 @@
-use Rattle.am_job.proofs.RoundsRun.{rounds_run_few}
+use Rattle.am_job.proofs.Ends.{rounds_run_few}
 use Rattle.am_job.proofs.run_laws.rounds_run_few.Goals as goal
 
 pub returns : goal.returns

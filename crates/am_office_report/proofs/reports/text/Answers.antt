@@ -18,7 +18,7 @@ returns c =
     let journal = entries_behind c.args.entries.now in
     joined _ _ _ _ _ _ _ _ _ c.new-out.ensures.items c.in_ok-put_line.ensures.ok
     (as_one _ _ _ _ _ c.in_ok-put_count.ensures c.in_ok-walk.ensures.lines)
-    (c.in_ok-put_ends.ensures journal (c.in_ok-walk.ensures.runs c.in_ok-runs.ensures)) (rw (
+    (c.in_ok-end_parts.ensures journal (c.in_ok-walk.ensures.runs c.in_ok-runs.ensures)) (rw (
       c.deref.ensures.value,
       c.in_ok-messages.ensures journal (c.in_ok-walk.ensures.heard c.in_ok-heard.ensures),
     ) at c.in_ok-put_messages.ensures)

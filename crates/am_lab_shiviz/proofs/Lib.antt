@@ -1,0 +1,5 @@
+mod Joining
+pub mod Knowing
+pub mod Heard
+mod Lines
+mod Told

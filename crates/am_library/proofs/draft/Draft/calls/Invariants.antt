@@ -1,6 +1,0 @@
-use Rattle.std.proofs.Common.{◌≡◌, take}
-use Rattle.am_library.specs.Drafts.{with_calls}
-use Rattle.am_library.proofs.draft.Draft.calls.Given as goal
-
-abbrev pub invariant-loop-made : goal.invariant-loop-made
-invariant-loop-made l = l.self ≡ with_calls l.initial.self (take l.made-index l.calls)

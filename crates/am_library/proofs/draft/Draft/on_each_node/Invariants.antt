@@ -1,6 +1,0 @@
-use Rattle.std.proofs.Common.{◌≡◌}
-use Rattle.am_library.specs.Drafts.{with_nodes}
-use Rattle.am_library.proofs.draft.Draft.on_each_node.Given as goal
-
-abbrev pub invariant-loop-node : goal.invariant-loop-node
-invariant-loop-node l = l.self ≡ with_nodes l.initial.self l.tag l.node

@@ -1,0 +1,9 @@
+//! Scenarios made in code, declaration by declaration and call by call: lawful at every place, and with nothing that runs them.
+#![tactic(auto)]
+
+pub mod calls;
+mod draft;
+pub mod lines;
+mod rounds;
+
+pub use draft::{Draft, DraftFault, Setting};
