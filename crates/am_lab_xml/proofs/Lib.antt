@@ -4,3 +4,4 @@ pub mod Texts
 pub mod Formed
 pub mod Found
 pub mod Led
+pub mod Elements

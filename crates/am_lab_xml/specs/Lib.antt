@@ -3,3 +3,4 @@ pub mod Trees
 pub mod Attributes
 pub mod Grammar
 pub mod Reading
+pub mod Elements

@@ -1,6 +1,7 @@
 //! What a printed tree is to whoever reads it.
 
 ghost use Rattle.std.specs.Prelude.{◌≡◌, ℕ, List, true};
+ghost use Rattle.am_lab_xml.specs.Elements.{are_readable, elements, elements_in};
 ghost use Rattle.am_lab_xml.specs.Escaped.{escaped, is_text, unescaped};
 ghost use Rattle.am_lab_xml.specs.Grammar.{IsDocument};
 ghost use Rattle.am_lab_xml.specs.Reading.{are_led, are_texts, first_texts, first_texts_in, texts, texts_in};
@@ -28,4 +29,10 @@ pub fn texts_are_read()
 /// tags alone, if these elements of the other name begin so, with a text of printable ASCII and line feeds and nothing else.
 pub fn first_texts_are_read()
     ensures { (outer name : List ℕ) (content : Content) → is_name outer ≡ true → is_name name ≡ true → is_sound content ≡ true → are_led outer name content ≡ true → first_texts_in outer name (printed content) ≡ first_texts outer content }
+{}
+
+/// The elements with their attributes are found in order in what is printed, by a reader who goes over its bytes once, if the
+/// values of the attributes are texts of printable ASCII and line feeds.
+pub fn elements_are_read()
+    ensures { (content : Content) → is_sound content ≡ true → are_readable content ≡ true → elements_in (printed content) ≡ elements content }
 {}
