@@ -1,5 +1,5 @@
 -- What is asked for has numbers that its command takes.
-use Rattle.std.proofs.Common.{◌≡◌, ℕ, ◌+◌, ◌-◌, ◌<◌, ◌≤◌, Bool, true, false, List, [], ◌∷◌, Result, Ok, Err, Option, Some, None, IfOk, refl, arith}
+use Rattle.std.proofs.Common.{◌≡◌, ℕ, ◌+◌, ◌-◌, Bool, true, false, List, [], ◌∷◌, Result, Ok, Err, Option, Some, None, IfOk, refl, arith}
 use Rattle.std.specs.Prelude.{codes, drop, nat_le, nat_lt, take, ◌==◌, ◌&&◌, if◌then◌else◌}
 use Rattle.std.specs.List.{position}
 use Rattle.std.specs.Str.{bytes_eq}
@@ -8,7 +8,7 @@ use Rattle.am_names.specs.declared.Serial.{Serial}
 use Rattle.am_scenario_types.specs.declared.parts.Form.{Form}
 use Rattle.am_scenario_types.specs.declared.parts.Form.TheVariants as Forms
 use Rattle.am_lab_words.specs.Ranges.{AreFewSeeds, AreTrials, IsInRange, IsPercent}
-use Rattle.am_lab_words.specs.Words.{are_line_words, asked_for, asks_with, asks_without, chart_lines, chart_message, chart_one, chart_part, chart_whole, chart_with, count_of, explain_in, faults_in, faults_of, find_of, find_with, find_without, form_of, front_message, front_of, is_closed, json_in, line_seeds, line_trials, lines_by, made_of, make_of, numbers_of, of_command, of_five_words, of_four_words, of_three_words, of_two_words, of_words, page_in, percent_by, percent_in, percent_of, points_of, printed_number, range_at, range_of, replay_of, round_of, rounds_in, scenario_in, scenario_of, schedule_by, schedule_drawn, schedule_faulty, schedule_in, schedule_of, seed_or_range, seeds_before, seeds_in, seeds_of, serial_of, shiviz_in, shiviz_of, shrink_by, shrink_form, shrink_in, shrink_of, shrink_plain, shrink_seeded, state_at_end, state_behind, state_between, state_by, state_change, state_line, trials_behind, trials_drawn, trials_plain, tried_with, why_before, why_front_of, why_in, why_message}
+use Rattle.am_lab_words.specs.Words.{are_line_words, asked_for, asks_with, asks_without, chart_lines, chart_message, chart_one, chart_part, chart_whole, chart_with, count_of, explain_in, faults_in, find_of, find_without, form_of, front_message, front_of, json_in, line_seeds, line_trials, lines_by, made_of, make_of, numbers_of, of_command, of_five_words, of_four_words, of_three_words, of_two_words, of_words, page_in, percent_by, percent_in, percent_of, points_of, printed_number, range_at, range_of, replay_of, round_of, rounds_in, scenario_in, scenario_of, schedule_by, schedule_drawn, schedule_faulty, schedule_in, schedule_of, seed_or_range, seeds_before, seeds_in, seeds_of, serial_of, shiviz_in, shiviz_of, shrink_by, shrink_form, shrink_in, shrink_of, shrink_plain, shrink_seeded, state_at_end, state_behind, state_between, state_by, state_change, state_line, trials_behind, trials_drawn, trials_plain, tried_with, why_before, why_front_of, why_in, why_message}
 use Rattle.am_lab_words.specs.declared.Asked.{Asked}
 use Rattle.am_lab_words.specs.declared.Asked.TheVariants as Commands
 use Rattle.am_lab_words.specs.declared.Seeds.{Seeds}
