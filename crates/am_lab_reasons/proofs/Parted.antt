@@ -31,7 +31,7 @@ scenario_in form text h s bytes p =
     same_scenario h.scenario s (grammar form (take p.place text))
     (subst (λ (n : ℕ). grammar form (take n text) ≡ Ok h.scenario) (place_in form text h s bytes p) h.spelled) p.spelled
 
-pub report_in : (form : Form) (text : List ℕ) (k : IsChecked form text) (s : ScenarioLists) (bytes : List ℕ) → HasParts form text s bytes →
+unfoldable pub report_in : (form : Form) (text : List ℕ) (k : IsChecked form text) (s : ScenarioLists) (bytes : List ℕ) → HasParts form text s bytes →
     IsReportOf form s bytes
 report_in form text k s bytes p =
     let same = scenario_in form text (has_report form text k) s bytes p in
