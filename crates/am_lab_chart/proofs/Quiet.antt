@@ -28,7 +28,7 @@ use Rattle.am_lab_chart.specs.Bars.{amount, bar, bar_title, frame_caption, frame
 use Rattle.am_lab_chart.specs.Bars.{records, stretch}
 use Rattle.am_lab_chart.specs.Ways.{arc, arrow_title, cross_title, drawn_arrow, drawn_cross, is_own, message, straight, way_title}
 use Rattle.am_lab_chart.specs.Rows.{fate_of, fate_x, inner, inner_text, label, label_at, label_text, labelled, line_number, line_text, link, link_line, mark}
-use Rattle.am_lab_chart.specs.Rows.{row_at, row_head, row_of, row_title, texts_of, x_of}
+use Rattle.am_lab_chart.specs.Rows.{row_head, row_of, row_title, texts_of, x_of}
 use Rattle.am_lab_chart.specs.Known.{occurs}
 use Rattle.am_lab_chart.specs.Lanes.{band, dotted, end_head, end_title, end_words, head, interface, interface_lane, interface_title, interface_words, node_words, nodes, pages_of}
 use Rattle.am_lab_chart.specs.Lanes.{repeated, tag_size, tag_words}
@@ -362,7 +362,7 @@ entries_have p left =
     (both _ _ (each_under (drawn_cross p left) (λ (c : Cross). joined (cross_title c)) (lost p left) p.crosses)
     (numbered_has (row_of p left) (λ (row : Row). printed row.entry) (row_has p left) p.first p.rows)))
 
-inside_has : (p : PictureLists) (left : ℕ) → Holds (row_titles p) (titles_before p ++ row_titles p) (inside p left)
+pub inside_has : (p : PictureLists) (left : ℕ) → Holds (row_titles p) (titles_before p ++ row_titles p) (inside p left)
 unfolding inside lanes_titles ways_titles
 inside_has p left =
     subst (λ (titles : List Word). Holds (row_titles p) titles (inside p left)) (sym (append_assoc (lanes_titles p) (ways_titles p) (row_titles p)))

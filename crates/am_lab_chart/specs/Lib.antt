@@ -9,3 +9,4 @@ pub mod Tables
 pub mod Shapes
 pub mod Drawing
 pub mod Titles
+pub mod Before

@@ -60,7 +60,12 @@ pub(crate) fn put_caption(
     put_holding(out, "text", given, &text)
 }
 
-fn put_title(out: &mut Vec<u8>, alloc: Global, words: &[LinePiece]) -> Result<(), AllocError>
+/// Appends a title with these words.
+pub(crate) fn put_title(
+    out: &mut Vec<u8>,
+    alloc: Global,
+    words: &[LinePiece],
+) -> Result<(), AllocError>
     ensures { OnOk result (out.new.items ≡ out.old.items ++ printed (title (joined (map word_of words.now)))) }
 {
     let text = text_of(alloc, words)?;

@@ -27,8 +27,9 @@ use am_lab_xml::{Point, put_break, put_close, put_empty, put_open};
 use am_names::NoMemory;
 use std::alloc::{AllocError, Global};
 
+/// The class of a picture, by whether its rows have text.
 #[tactic(auto, unfolding(crate::specs::Drawing::size_class))]
-fn size_class(picture: &Picture) -> &'static str
+pub(crate) fn size_class(picture: &Picture) -> &'static str
     ensures { result.now ≡ drawing.size_class picture.now }
 {
     if has_text(picture) { "large" } else { "small" }
@@ -109,8 +110,9 @@ fn put_entries(
     put_rows(out, alloc, picture, left, picture.first, &picture.rows)
 }
 
+/// Appends what stands inside a picture.
 #[tactic(auto, using(std::proofs::Common::append_assoc), unfolding(crate::specs::Drawing::inside))]
-fn put_inside(
+pub(crate) fn put_inside(
     out: &mut Vec<u8>,
     alloc: Global,
     picture: &Picture,
@@ -131,7 +133,8 @@ fn put_inside(
     put_entries(out, alloc, picture, left)
 }
 
-fn put_svg_open(
+/// Appends the start of a picture with this class, width and height.
+pub(crate) fn put_svg_open(
     out: &mut Vec<u8>,
     class: &'static str,
     wide: u64,
@@ -196,8 +199,9 @@ fn longest(alloc: Global, rows: &[Row]) -> Result<usize, NoMemory>
     Ok(longest)
 }
 
+/// Where the first band of a picture begins.
 #[tactic(auto, unfolding(am_lab_picture::specs::Layout::Layout::left_edge))]
-fn left_edge(alloc: Global, picture: &Picture) -> Result<u64, NoMemory>
+pub(crate) fn left_edge(alloc: Global, picture: &Picture) -> Result<u64, NoMemory>
     ensures exact { IfOk result (λ left. left ≡ layout.left_edge picture.now) }
     ensures low { IfOk result (λ left. left ≤ 4000) }
 {

@@ -2,6 +2,7 @@
 #![tactic(auto)]
 
 mod bars;
+mod before;
 mod captions;
 mod drawing;
 mod known;
@@ -12,6 +13,7 @@ mod shapes;
 mod tables;
 mod ways;
 
+pub use before::chart_before;
 pub use drawing::chart;
 pub use legends::{Explanation, Meaning};
 pub use tables::STYLE;

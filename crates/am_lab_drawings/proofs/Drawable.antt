@@ -1,6 +1,6 @@
 -- The picture of a report can be drawn.
-use Rattle.std.proofs.Common.{◌≡◌, ◌≢◌, ℕ, zero, suc, ◌+◌, ◌-◌, ◌*◌, ◌^◌, ◌<◌, ◌≤◌, ◌⊎◌, inl, inr, Bool, true, false, ◌&&◌, List, [], ◌∷◌, length, map, take}
-use Rattle.std.proofs.Common.{drop, Option, Some, None, Result, Ok, Err, refl, sym, ap, ◌∙◌, subst, arith, slice_index_or}
+use Rattle.std.proofs.Common.{◌≡◌, ◌≢◌, ℕ, zero, suc, ◌+◌, ◌-◌, ◌^◌, ◌<◌, ◌≤◌, ◌⊎◌, inl, inr, Bool, true, false, ◌&&◌, List, [], ◌∷◌, length, map, take}
+use Rattle.std.proofs.Common.{drop, Option, Some, None, Result, Ok, Err, refl, sym, subst, arith, slice_index_or}
 use Rattle.std.specs.Prelude.{IfOk, All, AllPairs, nat_le, nat_lt, if◌then◌else◌}
 use Rattle.std.proofs.lemmas.Bool.{and_parts, leb-true, ltb-true}
 use Rattle.std.proofs.lemmas.List.{length-drop, length-map, length-take}
@@ -15,6 +15,7 @@ use Rattle.am_lab_picture.specs.Layout.Layout.{IsDrawable}
 use Rattle.am_lab_picture.specs.Data.{PictureLists}
 use Rattle.am_lab_picture.specs.declared.data.Lines.{Lines}
 use Rattle.am_lab_reasons.proofs.Reported.{reported}
+use Rattle.am_lab_drawings.specs.Fronts.{whole_picture}
 use Rattle.am_lab_drawings.specs.View.Parts.{few, is_within, lines_of, part_lines}
 use Rattle.am_lab_drawings.specs.View.Pictures.{Shows, picture_by, picture_of}
 use Rattle.am_lab_drawings.specs.declared.view.parts.LineRange.{LineRange}
@@ -91,6 +92,13 @@ drawable_of s journal lines lawful short good =
       lines = omega (arith, all, taken, within, short);
       lanes = omega (arith, lanes, ends);
     }
+
+-- that of a whole journal
+pub drawable_whole : (s : ScenarioLists) (journal : List Entry) (p : PictureLists) → IsLawful s → length journal < 2 ^ 31 → Ok p ≡ whole_picture s journal →
+    IsDrawable p
+drawable_whole s journal p lawful short is =
+    let found = shown_of s journal (lines_of (length journal) None) p is in
+    subst IsDrawable (sym found.2) (drawable_of s journal found.0 lawful short (good_lines (length journal) None found.0 found.1))
 
 pub drawable : SpellsLawful → (form : Form) (text : List ℕ) (part : Option LineRange) (p : PictureLists) → length text < 2 ^ 31 → Shows form text part (Ok p) →
     IsDrawable p

@@ -23,7 +23,8 @@ use am_office_text::put_line;
 use am_scenario::{Form, one_scenario_or_fault};
 use std::alloc::{AllocError, Global};
 
-fn too_many_rows(alloc: Global) -> Result<Output, NoMemory>
+/// That there are more lines than are drawn.
+pub(crate) fn too_many_rows(alloc: Global) -> Result<Output, NoMemory>
     ensures { IfOk result (λ o. answer_in o ≡ too_many_rows) }
 {
     let text = Vec::from_slice(alloc, b"more than 20000 lines\n")?;
@@ -123,13 +124,31 @@ fn told_right(
     drawn(alloc, form, bytes, part)
 }
 
+/// What `check` answers, but of a right report the drawing of its lines.
+#[tactic(auto, using(crate::proofs::Answering::charts_other))]
+pub(crate) fn charted(
+    alloc: Global,
+    form: Form,
+    bytes: &[u8],
+    part: Option<LineRange>,
+    checked: Output,
+) -> Result<Output, NoMemory>
+    requires few { length bytes.now < 2 ^ 31 }
+    requires checks { CheckAnswers form bytes.now (answer_in checked) }
+    ensures { IfOk result (λ o. ChartAnswers form bytes.now part (answer_in o)) }
+{
+    if checked.status != 0 {
+        return Ok(checked);
+    }
+    told_right(alloc, form, bytes, part, &checked)
+}
+
 /// What `chart` prints of a scenario and its report: the picture of the report's lines from one to another, or of all lines of
 /// its journal, as SVG. Lines that aren't all of the journal, or none, are told with status 12 (`no such lines`, and which lines
 /// the journal has), and more than 20,000 with status 11 (`more than 20000 lines`). Of a text to which `check` doesn't say yes it
 /// prints what `check` does.
 ///
 /// `NoMemory` comes where there is none for the journal that is made again, for the picture, or for the text.
-#[tactic(auto, using(crate::proofs::Answering::charts_other))]
 pub fn chart_output(
     alloc: Global,
     form: Form,
@@ -140,8 +159,5 @@ pub fn chart_output(
     ensures { IfOk result (λ o. ChartAnswers form bytes.now part (answer_in o)) }
 {
     let output = check_output(alloc, form, bytes)?;
-    if output.status != 0 {
-        return Ok(output);
-    }
-    told_right(alloc, form, bytes, part, &output)
+    charted(alloc, form, bytes, part, output)
 }

@@ -17,9 +17,11 @@ mod steps;
 mod tracks;
 
 use crate::view::pictures::picture_in;
-use am_check::place_of;
+pub(crate) use crate::view::pictures::picture_part;
 pub use am_lab_picture::Picture;
-use am_scenario::{Form, read};
+use am_lab_reasons::parts_of;
+use am_names::NoMemory;
+use am_scenario::Form;
 pub use laws::{each_receipt_has_its_arrow, lanes_are_the_states, receipts_are_those_of_reasons};
 pub use parts::{LineRange, PictureFault};
 use std::alloc::Global;
@@ -39,11 +41,8 @@ pub fn picture(
     requires checked { IsChecked form text.now }
     ensures { (result ≡ Err Starved) ⊎ Shows form text.now part result }
 {
-    let Some(place) = place_of(text) else {
-        return Err(PictureFault::NoMemory);
-    };
-    match read(alloc, form, &text[..place]) {
-        Ok(scenario) => picture_in(alloc, &scenario, &text[place..], part),
-        Err(_) => Err(PictureFault::NoMemory),
+    match parts_of(alloc, form, text) {
+        Ok((scenario, bytes)) => picture_in(alloc, &scenario, bytes, part),
+        Err(NoMemory) => Err(PictureFault::NoMemory),
     }
 }

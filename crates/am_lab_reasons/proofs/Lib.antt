@@ -2,7 +2,9 @@ pub mod Joined
 pub mod Naming
 pub mod Receiving
 pub mod Reported
+pub mod Parted
 pub mod Again
 pub mod StoppedDue
+pub mod Standing
 pub mod Following
 pub mod StoppedSteps

@@ -1,11 +1,9 @@
 -- The journal of a report is told by its lines.
-use Rattle.std.proofs.Common.{◌≡◌, ℕ, ◌-◌, ◌<◌, ◌≤◌, ◌^◌, Option, Some, Result, Ok, Err, List, [], ◌++◌, drop, take, length, map, refl, sym, ap, ◌∙◌, subst}
+use Rattle.std.proofs.Common.{◌≡◌, ℕ, ◌-◌, ◌<◌, ◌≤◌, ◌^◌, Some, Result, Ok, Err, List, ◌++◌, drop, take, length, map, sym, ap, ◌∙◌, subst}
 use Rattle.std.proofs.Common.{arith, length-drop}
 use Rattle.std.proofs.lemmas.List.{take_all}
 use Rattle.std.specs.Global.{Vec}
 use Rattle.std.specs.Prelude.{IfOk}
-use Rattle.am_check.specs.Cut.{place_of}
-use Rattle.am_check.specs.Exact.{IsChecked}
 use Rattle.am_check.specs.Follows.{ids_of}
 use Rattle.am_check.specs.Verdict.{IsReportOf, count_of}
 use Rattle.am_check.proofs.Breaks.{behind, count_fits, count_is, rest_is}
@@ -13,9 +11,7 @@ use Rattle.am_check_lines.specs.Grammar.{printed}
 use Rattle.am_lexer.specs.Text.{lines_of}
 use Rattle.am_names.specs.declared.Serial.{Serial}
 use Rattle.am_office_entries.specs.declared.Entry.{Entry}
-use Rattle.am_office_report.specs.Report.{report}
 use Rattle.am_scenario_plan.specs.declared.plan.PlanLine.{PlanLine}
-use Rattle.am_scenario.specs.Grammar.{grammar}
 use Rattle.am_scenario_types.specs.declared.faults.ScenarioFault.{ScenarioFault}
 use Rattle.am_scenario_types.specs.declared.parts.Form.{Form}
 use Rattle.am_scenario_types.specs.Lists.{ScenarioLists}
@@ -23,7 +19,7 @@ use Rattle.am_scenario_types.specs.Lawful.{IsLawful}
 use Rattle.am_model_scripts.specs.Layout.{layout_of}
 use Rattle.am_lab_reasons.specs.Journal.Lines.{AreLines, HasEnd}
 use Rattle.am_lab_reasons.proofs.Again.{are_lines}
-use Rattle.am_lab_reasons.specs.Reasons.{TellsReasons, TellsOf, reasons}
+use Rattle.am_lab_reasons.specs.Reasons.{TellsOf, reasons}
 
 -- a report, its journal, and what its lines say of it
 pub record IsReported (form : Form) (s : ScenarioLists) (bytes : List ℕ) (journal : List Entry) : Type 0 where
@@ -56,7 +52,7 @@ same_scenario a b r e f = cc
 
 -- ---- what is told
 
-told_if : {E : Type 0} (r : Result (Vec ℕ) E) (P Q : List ℕ → Type 0) → ((out : List ℕ) → P out → Q out) → IfOk r (λ (out : Vec ℕ). P out.items) →
+pub told_if : {E : Type 0} (r : Result (Vec ℕ) E) (P Q : List ℕ → Type 0) → ((out : List ℕ) → P out → Q out) → IfOk r (λ (out : Vec ℕ). P out.items) →
     IfOk r (λ (out : Vec ℕ). Q out.items)
 told_if (Ok out) P Q f h = f out.items h
 told_if (Err e) P Q f h = tt
@@ -74,23 +70,6 @@ told_of form s bytes serial r plan journal result same is h =
       text = p ∙ ap (λ (l : List PlanLine). reasons l journal serial) same ∙ ap (λ (j : List Entry). reasons s.plan j serial) is;
     })
     h
-
-one_place : (a b : ℕ) (o : Option ℕ) → o ≡ Some a → o ≡ Some b → a ≡ b
-one_place a b o e f = cc
-
-pub tells_all : {E : Type 0} (form : Form) (text : List ℕ) (serial : Serial) → IsChecked form text → (place : ℕ) (bytes : List ℕ) (s : ScenarioLists) →
-    place_of text ≡ Some place → bytes ≡ drop place text → grammar form (take place text) ≡ Ok s → (result : Result (Vec ℕ) E) →
-    ((f : Form) → IsReportOf f s bytes → IfOk result (λ (out : Vec ℕ). TellsOf f s bytes serial out.items)) →
-    IfOk result (λ (out : Vec ℕ). TellsReasons form text serial out.items)
-tells_all form text serial k place bytes s at behind' spelled result f =
-    let e : k.place ≡ place = one_place k.place place (place_of text) k.place' at in
-    let same : k.scenario ≡ s = same_scenario k.scenario s (grammar form (take place text))
-    (subst (λ (p : ℕ). grammar form (take p text) ≡ Ok k.scenario) e k.spelled) spelled in
-    let report' = subst (λ (t : ScenarioLists). IsReportOf form t (drop place text)) same
-    (subst (λ (p : ℕ). IsReportOf form k.scenario (drop p text)) e k.report) in
-    told_if result (λ (out : List ℕ). TellsOf form s bytes serial out) (λ (out : List ℕ). TellsReasons form text serial out)
-    (λ out p. record { place = place; place' = at; scenario = s; spelled = spelled; told = subst (λ (b : List ℕ). TellsOf form s b serial out) behind' p })
-    (f form (subst (λ (b : List ℕ). IsReportOf form s b) (sym behind') report'))
 
 -- what stands behind a place, as the code cuts it
 pub cut_behind : (text : List ℕ) (place : ℕ) → take (length text - place) (drop place text) ≡ drop place text

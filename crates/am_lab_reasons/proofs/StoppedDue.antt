@@ -14,7 +14,6 @@ use Rattle.am_check.specs.declared.faults.CheckWhat.{CheckWhat}
 use Rattle.am_check.specs.declared.faults.CheckWhat.TheVariants as Whats
 use Rattle.am_check.proofs.Coming.{in_range}
 use Rattle.am_check_lines.specs.Grammar.{printed}
-use Rattle.am_check_lines.specs.Reading.{event_of}
 use Rattle.am_check_lines.proofs.Lines.{read_line}
 use Rattle.am_lexer.specs.Text.{lines_of}
 use Rattle.am_office_entries.specs.declared.Condition.{Condition}
@@ -47,7 +46,7 @@ unfolding lines_of
 lines_fit [] = omega arith
 lines_fit (byte ∷ text) = let h = fits_if (byte == 10) byte (lines_of text) (length text) (lines_fit text) in omega (arith, h)
 
-small : (form : Form) (s : ScenarioLists) (bytes : List ℕ) (journal : List Entry) (left : List (List ℕ)) →
+pub small : (form : Form) (s : ScenarioLists) (bytes : List ℕ) (journal : List Entry) (left : List (List ℕ)) →
     Reaches form s (drop 2 (lines_of bytes)) journal left → length journal ≤ length bytes
 small form s bytes journal left r =
     let cut = length-drop 2 (lines_of bytes) in

@@ -9,9 +9,8 @@ use Rattle.am_model.specs.declared.EntryFault.TheVariants as Faults
 use Rattle.am_model_scripts.specs.Layout.{events_of}
 use Rattle.am_model_scripts.specs.Steps.Laws.{AreInRange}
 use Rattle.am_machine.specs.View.{ClusterView, Applies}
-use Rattle.am_main_step.proofs.Made.{Walks, walks_stop, walks_end}
+use Rattle.am_main_step.proofs.Made.{Walks, walks_stop}
 use Rattle.am_names.specs.declared.NoMemory.{NoMemory}
-use Rattle.am_office_entries.specs.declared.Condition.{Condition}
 use Rattle.am_office_entries.specs.declared.Entry.{Entry}
 use Rattle.am_office_entries.specs.declared.Event.{Event}
 use Rattle.am_scenario_types.specs.declared.parts.StepLine.{StepLine}

@@ -7,3 +7,5 @@ pub mod Refusals
 pub mod Stops
 pub mod Journal
 pub mod Due
+pub mod Parts
+pub mod Before

@@ -19,7 +19,7 @@ use Rattle.am_office_report.specs.Report.{report}
 use Rattle.am_scenario.specs.Laws.{Spells}
 use Rattle.am_scenario_types.specs.declared.parts.Form.{Form}
 use Rattle.am_scenario_types.specs.Lists.{ScenarioLists}
-use Rattle.am_office_text.specs.Words.{line, serial}
+use Rattle.am_office_text.specs.Words.{serial}
 use Rattle.am_lemmas.specs.Numbered.{numbered}
 use Rattle.am_lab_reasons.specs.Packets.{packet_line}
 use Rattle.am_lab_reasons.specs.Touches.{touches}

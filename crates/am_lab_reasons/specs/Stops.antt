@@ -1,8 +1,8 @@
 -- What stops the steps of a script.
-use Rattle.std.specs.Prelude.{◌≡◌, ℕ, Bool, true, false, Option, Some, None, List, [], ◌++◌, length, slice_get, Result, Ok, Err, IsErr}
+use Rattle.std.specs.Prelude.{◌≡◌, ℕ, Bool, true, false, Option, Some, None, List, [], ◌++◌, length, slice_get, Result, Ok, IsErr}
 use Rattle.std.specs.List.{flat_map}
 use Rattle.am_model.specs.Layout.{Layout}
-use Rattle.am_model.specs.Steps.{Made, Stop, NotEnabled, LogFull, made}
+use Rattle.am_model.specs.Steps.{Made, Stop, NotEnabled, made}
 use Rattle.am_model.specs.declared.EntryFault.{EntryFault}
 use Rattle.am_model.specs.declared.EntryFault.TheVariants as Faults
 use Rattle.am_model_scripts.specs.Layout.{events_of}

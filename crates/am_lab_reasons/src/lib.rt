@@ -5,14 +5,17 @@
 ghost use Rattle.am_check.specs.Declares as declarations;
 ghost use Rattle.am_check.specs.Exact.{IsChecked};
 ghost use Rattle.am_check.specs.Verdict.{IsReportOf};
+ghost use Rattle.am_lab_reasons.specs.Parts.{HasReport};
 ghost use Rattle.am_lab_reasons.specs.Reasons.{IsDeclared, TellsReasons, TellsOf, reasons};
 ghost use Rattle.am_scenario_types.specs.Lawful.{IsLawful};
 ghost use Rattle.am_scenario_types.specs.declared.parts.Form.{Form as Kind};
 ghost use Rattle.std.specs.Prelude.{◌≡◌, ◌<◌, ◌^◌, IfOk, length};
 
+pub mod before;
 pub mod due;
 pub mod journal;
 mod packets;
+mod parts;
 mod receipts;
 pub mod refusals;
 pub mod stops;
@@ -21,11 +24,11 @@ mod touches;
 mod whereabouts;
 
 use crate::journal::journal_of;
+pub use crate::parts::parts_of;
 pub use crate::receipts::TracedJournal;
 use crate::told::put_reasons;
-use am_check::place_of;
 use am_names::{EndpointId, NoMemory, Serial};
-use am_scenario::{EndLine, Form, PlanLine, Scenario, read};
+use am_scenario::{EndLine, Form, PlanLine, Scenario};
 use std::alloc::Global;
 
 /// What became of a message of a journal, as `why` tells it (`reasons` of specs/Reasons). The plan is that of the scenario whose journal
@@ -72,13 +75,8 @@ pub fn why(alloc: Global, form: Form, text: &[u8], serial: Serial) -> Result<Vec
     requires checked { IsChecked form text.now }
     ensures { IfOk result (λ out. TellsReasons form text.now serial out.items) }
 {
-    let Some(place) = place_of(text) else {
-        return Err(NoMemory);
-    };
-    match read(alloc, form, &text[..place]) {
-        Ok(scenario) => reasons_of(alloc, &scenario, &text[place..], serial),
-        Err(_) => Err(NoMemory),
-    }
+    let (scenario, bytes) = parts_of(alloc, form, text)?;
+    reasons_of(alloc, &scenario, bytes, serial)
 }
 
 // Whether one of these lines declares an endpoint.
@@ -95,7 +93,7 @@ fn has_end(scenario: &Scenario, end: EndpointId) -> bool
     declares(&scenario.ends, end)
 }
 
-/// Whether the scenario in front of the report in a text declares an endpoint. The text is one to which `check` says yes.
+/// Whether the scenario in front of the report in a text declares an endpoint.
 ///
 /// `NoMemory` comes where there is none for the scenario.
 pub fn is_declared(
@@ -104,13 +102,9 @@ pub fn is_declared(
     text: &[u8],
     end: EndpointId,
 ) -> Result<bool, NoMemory>
+    requires report { HasReport form text.now }
     ensures { IfOk result (IsDeclared form text.now end) }
 {
-    let Some(place) = place_of(text) else {
-        return Err(NoMemory);
-    };
-    match read(alloc, form, &text[..place]) {
-        Ok(scenario) => Ok(has_end(&scenario, end)),
-        Err(_) => Err(NoMemory),
-    }
+    let (scenario, _) = parts_of(alloc, form, text)?;
+    Ok(has_end(&scenario, end))
 }

@@ -12,14 +12,14 @@ ghost use Rattle.std.specs.Prelude.{◌≡◌, ◌<◌, ◌^◌, IfOk, length};
 
 use crate::texts::shiviz_text;
 use am_check::laws::yes_is_true;
-use am_check::place_of;
 use am_lab_picture::IndexedJournal;
 use am_lab_reasons::journal::journal_of;
+use am_lab_reasons::parts_of;
 use am_main_lines::Output;
 use am_main_step::check_output;
 use am_names::NoMemory;
 use am_office_entries::Journal;
-use am_scenario::{Form, Scenario, read};
+use am_scenario::{Form, Scenario};
 use am_scenario_types::EndLine;
 use std::alloc::Global;
 
@@ -49,13 +49,8 @@ fn checked_text(alloc: Global, form: Form, text: &[u8]) -> Result<Vec<u8>, NoMem
     requires checked { IsChecked form text.now }
     ensures { (checked : IsChecked form text.now) → IfOk result (λ told. told.items ≡ shiviz_of checked.scenario.ends checked.report.journal) }
 {
-    let Some(place) = place_of(text) else {
-        return Err(NoMemory);
-    };
-    match read(alloc, form, &text[..place]) {
-        Ok(scenario) => report_text(alloc, &scenario, &text[place..]),
-        Err(_) => Err(NoMemory),
-    }
+    let (scenario, bytes) = parts_of(alloc, form, text)?;
+    report_text(alloc, &scenario, bytes)
 }
 
 // What is told of a text to which `check` says yes.

@@ -1,5 +1,5 @@
 -- What is asked for has numbers that its command takes.
-use Rattle.std.proofs.Common.{◌≡◌, ℕ, ◌+◌, ◌-◌, ◌<◌, ◌≤◌, Bool, true, false, List, [], ◌∷◌, Result, Ok, Err, Option, Some, None, IfOk, refl, arith}
+use Rattle.std.proofs.Common.{◌≡◌, ℕ, ◌+◌, ◌-◌, Bool, true, false, List, [], ◌∷◌, Result, Ok, Err, Option, Some, None, IfOk, refl, arith}
 use Rattle.std.specs.Prelude.{codes, drop, nat_le, nat_lt, take, ◌==◌, ◌&&◌, if◌then◌else◌}
 use Rattle.std.specs.List.{position}
 use Rattle.std.specs.Str.{bytes_eq}
@@ -8,7 +8,7 @@ use Rattle.am_names.specs.declared.Serial.{Serial}
 use Rattle.am_scenario_types.specs.declared.parts.Form.{Form}
 use Rattle.am_scenario_types.specs.declared.parts.Form.TheVariants as Forms
 use Rattle.am_lab_words.specs.Ranges.{AreFewSeeds, AreTrials, IsInRange, IsPercent}
-use Rattle.am_lab_words.specs.Words.{are_line_words, asked_for, asks_with, asks_without, chart_half, chart_lines, chart_part, chart_whole, count_of, explain_in, faults_in, faults_of, find_of, find_with, find_without, form_of, front_of, is_closed, json_in, line_seeds, line_trials, lines_by, made_of, make_of, numbers_of, of_command, of_five_words, of_four_words, of_three_words, of_two_words, of_words, page_in, percent_by, percent_in, percent_of, points_of, printed_number, range_at, range_of, replay_of, round_of, rounds_in, scenario_in, scenario_of, schedule_by, schedule_drawn, schedule_faulty, schedule_in, schedule_of, seed_or_range, seeds_before, seeds_in, seeds_of, serial_of, shiviz_in, shiviz_of, shrink_by, shrink_form, shrink_in, shrink_of, shrink_plain, shrink_seeded, state_at_end, state_behind, state_between, state_by, state_change, state_line, trials_behind, trials_drawn, trials_plain, tried_with, why_in, why_message}
+use Rattle.am_lab_words.specs.Words.{are_line_words, asked_for, asks_with, asks_without, chart_lines, chart_message, chart_one, chart_part, chart_whole, chart_with, count_of, explain_in, faults_in, find_of, find_without, form_of, front_message, front_of, json_in, line_seeds, line_trials, lines_by, made_of, make_of, numbers_of, of_command, of_five_words, of_four_words, of_three_words, of_two_words, of_words, page_in, percent_by, percent_in, percent_of, points_of, printed_number, range_at, range_of, replay_of, round_of, rounds_in, scenario_in, scenario_of, schedule_by, schedule_drawn, schedule_faulty, schedule_in, schedule_of, seed_or_range, seeds_before, seeds_in, seeds_of, serial_of, shiviz_in, shiviz_of, shrink_by, shrink_form, shrink_in, shrink_of, shrink_plain, shrink_seeded, state_at_end, state_behind, state_between, state_by, state_change, state_line, trials_behind, trials_drawn, trials_plain, tried_with, why_before, why_front_of, why_in, why_message}
 use Rattle.am_lab_words.specs.declared.Asked.{Asked}
 use Rattle.am_lab_words.specs.declared.Asked.TheVariants as Commands
 use Rattle.am_lab_words.specs.declared.Seeds.{Seeds}
@@ -114,13 +114,33 @@ why_right : (form : Option Form) (word : List ℕ) → IfOk (why_in form word) I
 why_right None word = tt
 why_right (Some form) word = message_right form (serial_of word)
 
+front_message_right : (form : Form) (serial : Option Serial) → IfOk (front_message form serial) IsInRange
+front_message_right form None = tt
+front_message_right form (Some serial) = tt
+
+before_right : (form : Option Form) (word : List ℕ) → IfOk (why_before form word) IsInRange
+before_right None word = tt
+before_right (Some form) word = front_message_right form (serial_of word)
+
+why_front_right : (form option word : List ℕ) → IfOk (why_front_of form option word) IsInRange
+unfolding why_front_of
+why_front_right form option word = either _ _ (bytes_eq option (codes "--front")) (before_right (form_of form) word) tt
+
 chart_right : (form : Option Form) → IfOk (chart_whole form) IsInRange
 chart_right None = tt
 chart_right (Some form) = tt
 
-half_right : (form : Option Form) → IfOk (chart_half form) IsInRange
-half_right None = tt
-half_right (Some form) = tt
+picked_right : (form : Form) (serial : Option Serial) → IfOk (chart_message form serial) IsInRange
+picked_right form None = tt
+picked_right form (Some serial) = tt
+
+one_right : (form : Form) (word : List ℕ) → IfOk (chart_one form word) IsInRange
+unfolding chart_one
+one_right form word = either _ _ (bytes_eq word (codes "--front")) tt (picked_right form (serial_of word))
+
+one_word_right : (form : Option Form) (word : List ℕ) → IfOk (chart_with form word) IsInRange
+one_word_right None word = tt
+one_word_right (Some form) word = one_right form word
 
 lines_right : (form : Form) (from to : ℕ) → IfOk (lines_by form from to) IsInRange
 unfolding lines_by
@@ -334,7 +354,7 @@ unfolding of_three_words
 three_right command word other =
     either _ _ (bytes_eq command (codes "explain")) (front_right word other)
     (either _ _ (bytes_eq command (codes "why")) (why_right (form_of word) other)
-    (either _ _ (bytes_eq command (codes "chart")) (half_right (form_of word))
+    (either _ _ (bytes_eq command (codes "chart")) (one_word_right (form_of word) other)
     (either _ _ (bytes_eq command (codes "json")) (shiviz_right word other)
     (either _ _ (bytes_eq command (codes "scenario")) (make_right word other)
     (either _ _ (bytes_eq command (codes "state")) (behind_right (form_of word) other)
@@ -344,9 +364,10 @@ three_right command word other =
 four_right : (command word from to : List ℕ) → IfOk (of_four_words command word from to) IsInRange
 unfolding of_four_words
 four_right command word from to =
-    either _ _ (bytes_eq command (codes "chart")) (part_right (form_of word) from to)
+    either _ _ (bytes_eq command (codes "why")) (why_front_right word from to)
+    (either _ _ (bytes_eq command (codes "chart")) (part_right (form_of word) from to)
     (either _ _ (bytes_eq command (codes "state")) (between_right (form_of word) from to)
-    (either _ _ (bytes_eq command (codes "schedule")) (faulty_right word from to) tt))
+    (either _ _ (bytes_eq command (codes "schedule")) (faulty_right word from to) tt)))
 
 five_right : (command word nodes turns number : List ℕ) → IfOk (of_five_words command word nodes turns number) IsInRange
 unfolding of_five_words

@@ -68,15 +68,35 @@ abbrev pub why_in : Option Form → List ℕ → Result Asked Wrong
 why_in None word = Err Wrongs.Form
 why_in (Some form) word = why_message form (serial_of word)
 
--- ---- chart FORM, chart FORM FROM TO
+-- ---- why FORM --front SERIAL
+
+abbrev pub front_message : Form → Option Serial → Result Asked Wrong
+front_message form None = Err Wrongs.Serial
+front_message form (Some serial) = Ok (Commands.WhyFront form serial)
+
+abbrev pub why_before : Option Form → List ℕ → Result Asked Wrong
+why_before None word = Err Wrongs.Form
+why_before (Some form) word = front_message form (serial_of word)
+
+unfoldable pub why_front_of : (form option word : List ℕ) → Result Asked Wrong
+why_front_of form option word = if bytes_eq option (codes "--front") then why_before (form_of form) word else Err Wrongs.Form
+
+-- ---- chart FORM, chart FORM --front, chart FORM SERIAL, chart FORM FROM TO
 
 abbrev pub chart_whole : Option Form → Result Asked Wrong
 chart_whole None = Err Wrongs.Form
 chart_whole (Some form) = Ok (Commands.Chart form None)
 
-abbrev pub chart_half : Option Form → Result Asked Wrong
-chart_half None = Err Wrongs.Form
-chart_half (Some form) = Err Wrongs.HalfPart
+abbrev pub chart_message : Form → Option Serial → Result Asked Wrong
+chart_message form None = Err Wrongs.HalfPart
+chart_message form (Some serial) = Ok (Commands.ChartMessage form serial)
+
+unfoldable pub chart_one : Form → List ℕ → Result Asked Wrong
+chart_one form word = if bytes_eq word (codes "--front") then Ok (Commands.ChartFront form) else chart_message form (serial_of word)
+
+abbrev pub chart_with : Option Form → List ℕ → Result Asked Wrong
+chart_with None word = Err Wrongs.Form
+chart_with (Some form) word = chart_one form word
 
 -- numbers of lines are below 2 ^ 32
 unfoldable pub lines_by : Form → ℕ → ℕ → Result Asked Wrong
@@ -355,7 +375,7 @@ unfoldable pub of_three_words : List ℕ → List ℕ → List ℕ → Result As
 of_three_words command word other =
     if bytes_eq command (codes "explain") then front_of word other else
     if bytes_eq command (codes "why") then why_in (form_of word) other else
-    if bytes_eq command (codes "chart") then chart_half (form_of word) else
+    if bytes_eq command (codes "chart") then chart_with (form_of word) other else
     if bytes_eq command (codes "json") then shiviz_of word other else
     if bytes_eq command (codes "scenario") then make_of word other else
     if bytes_eq command (codes "state") then state_behind (form_of word) other else
@@ -363,6 +383,7 @@ of_three_words command word other =
 
 unfoldable pub of_four_words : List ℕ → List ℕ → List ℕ → List ℕ → Result Asked Wrong
 of_four_words command word from to =
+    if bytes_eq command (codes "why") then why_front_of word from to else
     if bytes_eq command (codes "chart") then chart_part (form_of word) from to else
     if bytes_eq command (codes "state") then state_between (form_of word) from to else
     if bytes_eq command (codes "schedule") then schedule_faulty word from to else Err Wrongs.Form

@@ -77,11 +77,25 @@ pub enum Asked {
         form: Form,
         serial: Serial,
     },
+    /// `why step --front E.K`, `why run --front E.K`: the same of a report that is right up to a fault or ends in a full log, by
+    /// what stands before that.
+    WhyFront {
+        form: Form,
+        serial: Serial,
+    },
     /// `chart step`, `chart run`, each with `FROM TO` or without: a picture of these lines of a report of a scenario of this
     /// form, or of all lines of its journal.
     Chart {
         form: Form,
         part: Option<Lines>,
+    },
+    /// `chart step --front`, `chart run --front`: a picture of what stands before a report's fault or its full log, with that as a
+    /// last row.
+    ChartFront(Form),
+    /// `chart step E.K`, `chart run E.K`: a picture of the lines that touch the K-th message of endpoint E.
+    ChartMessage {
+        form: Form,
+        serial: Serial,
     },
     /// `scenario step`, `scenario run`: a scenario of this form, printed in one form.
     Scenario(Form),

@@ -9,7 +9,7 @@ pub enum Wrong {
     Front,
     /// `why`: the last word is no serial of a message.
     Serial,
-    /// `chart`: one line stands there, and not two.
+    /// `chart`: one word stands there that is no message, and not two lines.
     HalfPart,
     /// `chart`: a word is no number of a line.
     Line,
@@ -58,7 +58,9 @@ impl Wrong {
             Wrong::Serial => {
                 "a message is E.K as the report prints it: 0.1 is the first that endpoint 0 accepted"
             }
-            Wrong::HalfPart => "FROM and TO come together: chart takes two lines or none",
+            Wrong::HalfPart => {
+                "FROM and TO come together: chart takes two lines, a message as 0.1, --front or none of them"
+            }
             Wrong::Line => {
                 "FROM and TO are lines of the report: numbers up to 4294967295, with no zero in front"
             }

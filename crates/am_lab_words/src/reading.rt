@@ -1,7 +1,7 @@
 //! What the words ask for, read by how many there are.
 
 ghost use Rattle.am_lab_words.specs.Ranges.{IsInRange};
-ghost use Rattle.am_lab_words.specs.Words.{asked_for, chart_half, chart_lines, chart_part, chart_whole, count_of, explain_in, front_of, json_in, lines_by, made_of, make_of, of_command, of_five_words, of_four_words, of_three_words, of_two_words, of_words, page_in, replay_of, round_of, rounds_in, scenario_in, scenario_of, serial_by, serial_in, serial_of, shiviz_in, shiviz_of, why_in, why_message};
+ghost use Rattle.am_lab_words.specs.Words.{asked_for, chart_lines, chart_message, chart_one, chart_part, chart_whole, chart_with, count_of, explain_in, front_message, front_of, json_in, lines_by, made_of, make_of, of_command, of_five_words, of_four_words, of_three_words, of_two_words, of_words, page_in, replay_of, round_of, rounds_in, scenario_in, scenario_of, serial_by, serial_in, serial_of, shiviz_in, shiviz_of, why_before, why_front_of, why_in, why_message};
 ghost use Rattle.std.specs.Prelude.{◌≡◌, IfOk, map, string_bytes};
 
 use crate::faults::faults_of;
@@ -130,6 +130,35 @@ fn why_in(form: Option<Form>, word: &str) -> Result<Asked, Wrong>
     }
 }
 
+fn front_message(form: Form, serial: Option<Serial>) -> Result<Asked, Wrong>
+    ensures { result ≡ front_message form serial }
+{
+    match serial {
+        Some(serial) => Ok(Asked::WhyFront { form, serial }),
+        None => Err(Wrong::Serial),
+    }
+}
+
+fn why_before(form: Option<Form>, word: &str) -> Result<Asked, Wrong>
+    ensures { result ≡ why_before form word.now }
+{
+    match form {
+        Some(form) => front_message(form, serial_of(word.as_bytes())),
+        None => Err(Wrong::Form),
+    }
+}
+
+#[tactic(auto, unfolding(crate::specs::Words::why_front_of))]
+fn why_front_of(form: &str, option: &str, word: &str) -> Result<Asked, Wrong>
+    ensures { result ≡ why_front_of form.now option.now word.now }
+{
+    if option == "--front" {
+        why_before(form_of(form), word)
+    } else {
+        Err(Wrong::Form)
+    }
+}
+
 fn chart_whole(form: Option<Form>) -> Result<Asked, Wrong>
     ensures { result ≡ chart_whole form }
 {
@@ -139,11 +168,31 @@ fn chart_whole(form: Option<Form>) -> Result<Asked, Wrong>
     }
 }
 
-fn chart_half(form: Option<Form>) -> Result<Asked, Wrong>
-    ensures { result ≡ chart_half form }
+fn chart_message(form: Form, serial: Option<Serial>) -> Result<Asked, Wrong>
+    ensures { result ≡ chart_message form serial }
+{
+    match serial {
+        Some(serial) => Ok(Asked::ChartMessage { form, serial }),
+        None => Err(Wrong::HalfPart),
+    }
+}
+
+#[tactic(auto, unfolding(crate::specs::Words::chart_one))]
+fn chart_one(form: Form, word: &str) -> Result<Asked, Wrong>
+    ensures { result ≡ chart_one form word.now }
+{
+    if word == "--front" {
+        Ok(Asked::ChartFront(form))
+    } else {
+        chart_message(form, serial_of(word.as_bytes()))
+    }
+}
+
+fn chart_with(form: Option<Form>, word: &str) -> Result<Asked, Wrong>
+    ensures { result ≡ chart_with form word.now }
 {
     match form {
-        Some(_) => Err(Wrong::HalfPart),
+        Some(form) => chart_one(form, word),
         None => Err(Wrong::Form),
     }
 }
@@ -301,7 +350,7 @@ fn of_three_words(command: &str, word: &str, other: &str) -> Result<Asked, Wrong
     match command {
         "explain" => front_of(word, other),
         "why" => why_in(form_of(word), other),
-        "chart" => chart_half(form_of(word)),
+        "chart" => chart_with(form_of(word), other),
         "json" => shiviz_of(word, other),
         "scenario" => make_of(word, other),
         "state" => state_behind(form_of(word), other),
@@ -315,6 +364,7 @@ fn of_four_words(command: &str, word: &str, from: &str, to: &str) -> Result<Aske
     ensures { result ≡ of_four_words command.now word.now from.now to.now }
 {
     match command {
+        "why" => why_front_of(word, from, to),
         "chart" => chart_part(form_of(word), from, to),
         "state" => state_between(form_of(word), from, to),
         "schedule" => schedule_faulty(word.as_bytes(), from, to),

@@ -31,8 +31,9 @@ const WHY_EXAMPLE: &str = "cat examples/first.am2 examples/first.out | bin/am2_l
 const WHY: Shown = Shown {
     name: "why",
     about: "Tells what became of a message, and why",
-    usage: "am2_lab why <step|run> <E.K>",
-    more: "E.K is the K-th message that endpoint E accepted, as the report prints it. \
+    usage: "am2_lab why <step|run> [--front] <E.K>",
+    more: "E.K is the K-th message that endpoint E accepted, as the report prints it. With --front a report may have a fault or end in a \
+full log: what stands before that is told. \
 Standard input is a scenario of this form and, behind it, its report:\n\n  \
 cat examples/first.am2 examples/first.out | bin/am2_lab why step 0.1",
     example: WHY_EXAMPLE,
@@ -40,9 +41,10 @@ cat examples/first.am2 examples/first.out | bin/am2_lab why step 0.1",
 
 const CHART: Shown = Shown {
     name: "chart",
-    about: "Draws a report as a space-time picture, in SVG: its whole journal, or the lines from FROM to TO",
-    usage: "am2_lab chart <step|run> [FROM TO]",
-    more: "FROM and TO are lines of the report, whose journal begins in line 3. \
+    about: "Draws a report as a space-time picture, in SVG: its whole journal, the lines from FROM to TO, or those of a message",
+    usage: "am2_lab chart <step|run> [FROM TO]\n       am2_lab chart <step|run> <E.K>\n       am2_lab chart <step|run> --front",
+    more: "FROM and TO are lines of the report, whose journal begins in line 3; E.K is the K-th message that endpoint E accepted. \
+With --front a report may have a fault or end in a full log: what stands before that is drawn, with the fault as a last row. \
 Standard input is a scenario of this form and, behind it, its report:\n\n  \
 cat examples/first.am2 examples/first.out | bin/am2_lab chart step > first.svg\n  \
 cat examples/run-withheld.am2 examples/run-withheld.out | bin/am2_lab chart run 8 16 > tries.svg",

@@ -102,8 +102,8 @@ fn drawn(
     })
 }
 
-// The picture of some lines of a journal, or why there is none.
-fn picture_part(
+/// The picture of some lines of a journal, or why there is none.
+pub(crate) fn picture_part(
     alloc: Global,
     scenario: &Scenario,
     journal: Journal,

@@ -1,11 +1,9 @@
-use Rattle.std.proofs.Common.{◌-◌, take, drop, length, sym}
-use Rattle.am_lab_reasons.proofs.Reported.{cut_behind, tells_all}
+use Rattle.am_lab_reasons.proofs.Parted.{report_in, tells_parts}
 use Rattle.am_lab_reasons.proofs.why.Goals as goal
 
-pub returns-in-Ok : goal.returns-in-Ok
-returns-in-Ok c =
-    let text = c.args.text.now in
-    let place = c.in-Some.place in
-    tells_all c.args.form text c.args.serial c.requires.checked place (take (length text - place) (drop place text)) c.in-Ok.scenario
-    (sym c.in-Some.ensures.place) (cut_behind text place) c.in-Ok.ensures.exact
-    c.reasons_of.result c.reasons_of.ensures
+pub returns : goal.returns
+returns c =
+    let a = c.args in
+    let p = c.in_ok-scenario in
+    tells_parts a.form a.text.now a.serial p.scenario p.bytes.now p.ensures.parts c.reasons_of.result
+    (c.reasons_of.ensures a.form (report_in a.form a.text.now c.requires.checked p.scenario p.bytes.now p.ensures.parts))

@@ -4,7 +4,7 @@ use Rattle.std.specs.List.{position}
 use Rattle.am_lexer.specs.declared.what.What.{What}
 use Rattle.am_lexer.specs.declared.what.What.TheVariants as Whats
 use Rattle.am_scenario_types.specs.declared.parts.Form.{Form}
-use Rattle.am_lab_reasons.specs.Refusals.Faults.{fault_in, is_missing, is_taken, reads_on}
+use Rattle.am_lab_reasons.specs.Refusals.Faults.{fault_in, is_taken, reads_on}
 
 -- a word ends in front of these bytes
 abbrev pub is_end : List ℕ → Bool

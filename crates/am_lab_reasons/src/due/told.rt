@@ -19,10 +19,11 @@ ghost use Rattle.am_scenario_types.specs.declared.parts.Network.TheVariants.{Pac
 ghost use Rattle.am_model_scripts.specs.Layout.{events_of, layout_of};
 ghost use Rattle.std.specs.Prelude.{◌≡◌, ◌≤◌, ◌-◌, [], ◌∷◌, ℕ, List, IfOk, OnOk, slice_get, true};
 
+use crate::before::journal_at;
 use crate::due::choices::put_choices;
 use crate::due::found::put_found;
 use crate::due::texts::{put_due_entry, put_due_line, put_step};
-use crate::journal::{journal_in, reach, reach_end};
+use crate::journal::{reach, reach_end};
 use crate::refusals::line_at;
 use am_check::step_event;
 use am_check_lines::parse_line;
@@ -31,7 +32,7 @@ use am_lexer::next_line;
 use am_machine::Cluster;
 use am_main_lines::report_of;
 use am_names::NoMemory;
-use am_office_entries::{Condition, Entry, Event, Journal};
+use am_office_entries::{Condition, Entry, Event};
 use am_scenario::Scenario;
 use std::alloc::{AllocError, Global};
 
@@ -205,22 +206,6 @@ fn followed<'a>(
     let mut run = ScriptedCluster::new(alloc, scenario)?;
     follow(&mut run, entries)?;
     Ok(run)
-}
-
-// The journal that the lines in front of a line tell.
-fn journal_at(
-    alloc: Global,
-    scenario: &Scenario,
-    bytes: &[u8],
-    line: u32,
-) -> Result<Journal, NoMemory>
-    requires lawful { IsLawful scenario.now }
-    requires place { IsBehindJournal Forms.Run scenario.now bytes.now line }
-    ensures { (place : IsBehindJournal Forms.Run scenario.now bytes.now line) → IfOk result (λ journal. journal ≡ place.journal) }
-{
-    let mut cluster = Cluster::new(alloc, scenario)?;
-    reach(&mut cluster, bytes, line)?;
-    journal_in(alloc, &cluster)
 }
 
 // The cluster that runs the scripts of a scenario, as it stands in front of a line.

@@ -1,12 +1,14 @@
-use Rattle.std.proofs.Common.{◌-◌, take, drop, length, sym}
-use Rattle.am_lab_reasons.proofs.Reported.{cut_behind}
-use Rattle.am_lab_drawings.proofs.Showing.{shows_all}
+use Rattle.am_lab_reasons.proofs.Parted.{report_in}
+use Rattle.am_lab_drawings.proofs.Showing.{shows_parts}
 use Rattle.am_lab_drawings.proofs.view.picture.Goals as goal
+
+pub picture_in-requires-clause-report : goal.picture_in-requires-clause-report
+picture_in-requires-clause-report c =
+    let p = c.in-Ok in (c.args.form, report_in c.args.form c.args.text.now c.requires.checked p.scenario p.bytes.now p.ensures.parts)
 
 pub returns-in-Ok : goal.returns-in-Ok
 returns-in-Ok c =
-    let text = c.args.text.now in
-    let place = c.in-Some.place in
-    shows_all c.args.form text c.args.part c.requires.checked place (take (length text - place) (drop place text)) c.in-Ok.scenario c.picture_in.result
-    (sym c.in-Some.ensures.place)
-    (cut_behind text place) c.in-Ok.ensures.exact c.picture_in.ensures
+    let a = c.args in
+    let p = c.in-Ok in
+    shows_parts a.form a.text.now a.part p.scenario p.bytes.now c.picture_in.result p.ensures.parts
+    (c.picture_in.ensures a.form (report_in a.form a.text.now c.requires.checked p.scenario p.bytes.now p.ensures.parts))

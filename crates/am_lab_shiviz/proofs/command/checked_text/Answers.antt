@@ -1,20 +1,13 @@
-use Rattle.std.proofs.Common.{◌-◌, take, drop, length, sym}
-use Rattle.am_lab_reasons.proofs.Reported.{cut_behind}
-use Rattle.am_lab_shiviz.proofs.Told.{report_is, told_of_text}
+use Rattle.am_lab_reasons.proofs.Parted.{report_in}
+use Rattle.am_lab_shiviz.proofs.Told.{told_of_parts}
 use Rattle.am_lab_shiviz.proofs.command.checked_text.Goals as goal
 
 pub report_text-requires-clause-report : goal.report_text-requires-clause-report
 report_text-requires-clause-report c =
-    let text = c.args.text.now in
-    let place = c.in-Some.place in (
-      c.args.form,
-      report_is c.args.form text place (take (length text - place) (drop place text)) c.in-Ok.scenario c.requires.checked
-          (sym c.in-Some.ensures.place) (cut_behind text place) c.in-Ok.ensures.exact,
-    )
+    let p = c.in_ok-scenario in
+    (c.args.form, report_in c.args.form c.args.text.now c.requires.checked p.scenario p.bytes.now p.ensures.parts)
 
-pub returns-in-Ok : goal.returns-in-Ok
-returns-in-Ok c =
-    let text = c.args.text.now in
-    let place = c.in-Some.place in
-    told_of_text c.args.form text place (take (length text - place) (drop place text)) c.in-Ok.scenario c.report_text.result
-    (sym c.in-Some.ensures.place) (cut_behind text place) c.in-Ok.ensures.exact c.report_text.ensures
+pub returns : goal.returns
+returns c =
+    let p = c.in_ok-scenario in
+    told_of_parts c.args.form c.args.text.now p.scenario p.bytes.now c.report_text.result p.ensures.parts c.report_text.ensures

@@ -1,4 +1,4 @@
-use Rattle.std.proofs.Common.{◌≡◌, ap, ◌∙◌}
+use Rattle.std.proofs.Common.{ap, ◌∙◌}
 use Rattle.am_scenario_types.specs.Lists.{ScenarioLists}
 use Rattle.am_lab_reasons.proofs.Following.{all_declared}
 use Rattle.am_lab_reasons.proofs.due.choices.put_choices.Goals as goal

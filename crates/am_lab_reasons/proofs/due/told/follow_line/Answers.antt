@@ -15,19 +15,22 @@ run_has : {E : Type 0} (r : Result RunView E) (P : List Entry → Type 0) (js : 
 run_has (Ok run) P js has is = subst P (sym is) has
 run_has (Err x) P js has is = tt
 
+pub journal_at-requires-clause-place : goal.journal_at-requires-clause-place
+journal_at-requires-clause-place c = (Forms.Run, c.requires.place)
+
 pub followed-requires-clause-again : goal.followed-requires-clause-again
 followed-requires-clause-again c =
     let s = c.args.scenario.now in
     let h = c.requires.place in
     let plain = lines_at Forms.Run s c.requires.lawful c.args.bytes.now c.args.line h.journal h.left h.at (layout_of s) refl in
-    let entries : c.deref.result.now ≡ h.journal = c.deref.ensures.value ∙ c.journal.view_is ∙ c.in_ok-journal.ensures h in
+    let entries : c.deref.result.now ≡ h.journal = c.deref.ensures.value ∙ c.journal.view_is ∙ c.in_ok-journal.ensures Forms.Run h in
     subst (λ (js : List Entry). EachAfter (IsMadeAgain (layout_of s)) [] js) (sym entries) plain.each
 
 pub returns-clause-at : goal.returns-clause-at
 returns-clause-at c =
     let s = c.args.scenario.now in
     let h = c.requires.place in
-    let entries : c.deref.result.now ≡ h.journal = c.deref.ensures.value ∙ c.journal.view_is ∙ c.in_ok-journal.ensures h in
+    let entries : c.deref.result.now ≡ h.journal = c.deref.ensures.value ∙ c.journal.view_is ∙ c.in_ok-journal.ensures Forms.Run h in
     let Stands = λ (js : List Entry). (left : List (List ℕ)) × StandsAt Forms.Run s c.args.bytes.now c.args.line js left in
     run_has c.followed.result Stands c.deref.result.now (
       h.left,
