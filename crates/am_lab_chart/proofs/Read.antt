@@ -4,7 +4,6 @@ use Rattle.std.specs.Global.{Vec}
 use Rattle.am_lab_picture.specs.Data.{PictureLists}
 use Rattle.am_lab_xml.specs.Grammar.{IsDocument}
 use Rattle.am_lab_xml.specs.Reading.{first_texts_in, texts_in}
-use Rattle.am_lab_xml.specs.Trees.{Content}
 use Rattle.am_lab_xml.specs.Trees.{Content as Contents}
 use Rattle.am_lab_xml.proofs.Formed.{document}
 use Rattle.am_lab_xml.proofs.Found.{texts_are_found}

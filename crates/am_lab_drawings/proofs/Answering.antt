@@ -1,5 +1,5 @@
 -- The answer of `chart`.
-use Rattle.std.proofs.Common.{◌≡◌, ◌≢◌, ℕ, List, Option, inl, refl}
+use Rattle.std.proofs.Common.{◌≢◌, ℕ, List, Option, inl, refl}
 use Rattle.am_lab_drawings.specs.declared.view.parts.LineRange.{LineRange}
 use Rattle.am_main_step.specs.Checks.{CheckAnswers}
 use Rattle.am_main_lines.specs.Lines.{Answer}

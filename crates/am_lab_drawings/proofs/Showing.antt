@@ -13,7 +13,7 @@ use Rattle.am_lab_drawings.specs.declared.view.parts.LineRange.{LineRange}
 use Rattle.am_lab_drawings.specs.declared.view.parts.PictureFault.{PictureFault}
 use Rattle.am_lab_drawings.specs.declared.view.parts.PictureFault.TheVariants.{NoMemory}
 
-one_place : (a b : ℕ) (o : Option ℕ) → o ≡ Some a → o ≡ Some b → a ≡ b
+pub one_place : (a b : ℕ) (o : Option ℕ) → o ≡ Some a → o ≡ Some b → a ≡ b
 one_place a b o e f = cc
 
 pub shows_all : (form : Form) (text : List ℕ) (part : Option LineRange) → IsChecked form text →

@@ -23,7 +23,7 @@ use am_office_text::put_line;
 use am_scenario::{Form, one_scenario_or_fault};
 use std::alloc::{AllocError, Global};
 
-fn too_many_rows(alloc: Global) -> Result<Output, NoMemory>
+pub(crate) fn too_many_rows(alloc: Global) -> Result<Output, NoMemory>
     ensures { IfOk result (λ o. answer_in o ≡ too_many_rows) }
 {
     let text = Vec::from_slice(alloc, b"more than 20000 lines\n")?;

@@ -11,6 +11,7 @@ ghost use Rattle.std.specs.Prelude.{◌≡◌, ◌⊎◌, ◌<◌, ◌^◌, Err,
 
 mod lanes;
 mod laws;
+mod messages;
 mod parts;
 mod pictures;
 mod steps;
@@ -20,7 +21,12 @@ use crate::view::pictures::picture_in;
 use am_check::place_of;
 pub use am_lab_picture::Picture;
 use am_scenario::{Form, read};
-pub use laws::{each_receipt_has_its_arrow, lanes_are_the_states, receipts_are_those_of_reasons};
+pub use laws::{
+    each_receipt_has_its_arrow, lanes_are_the_states, message_pictures_are_of_messages,
+    receipts_are_those_of_reasons,
+};
+pub use messages::message_picture;
+pub(crate) use parts::MOST_ROWS;
 pub use parts::{LineRange, PictureFault};
 use std::alloc::Global;
 

@@ -1,18 +1,16 @@
-use Rattle.std.proofs.Common.{◌≡◌, Result, Err}
+use Rattle.std.proofs.Common.{◌≡◌, Result}
 use Rattle.am_main_lines.specs.declared.outputs.Output.{Output}
 use Rattle.am_main_lines.specs.Lines.{answer_in}
-use Rattle.am_names.specs.declared.NoMemory.{NoMemory}
 use Rattle.am_lab_picture.specs.Data.{PictureLists}
 use Rattle.am_lab_drawings.specs.View.Pictures.{Shows}
 use Rattle.am_lab_drawings.specs.declared.view.parts.PictureFault.{PictureFault}
-use Rattle.am_lab_drawings.specs.declared.view.parts.PictureFault.TheVariants as Faults
 use Rattle.am_lab_drawings.specs.Charts.{drawing_of}
 use Rattle.am_lab_drawings.proofs.Drawable.{drawable, refusal_shown, shown_only}
 use Rattle.am_lab_drawings.proofs.charts.drawn.Goals as goal
 
 pub chart-requires : goal.chart-requires
 chart-requires c =
-    drawable c.one_scenario_or_fault.ensures.lawful c.args.form c.args.bytes.now c.args.part c.in-Ok.picture c.requires.few
+    drawable c.one_scenario_or_fault.ensures.lawful c.args.form c.args.bytes.now c.args.part c.in-Ok.picture
     (shown_only c.picture.result (Shows c.args.form c.args.bytes.now c.args.part) c.picture.ensures c.in-Ok.picture c.in-Ok.is)
 
 pub returns-in-Err : goal.returns-in-Err

@@ -1,6 +1,3 @@
-use Rattle.std.proofs.Common.{inr}
-use Rattle.am_check.specs.Exact.{IsChecked}
-use Rattle.am_main_lines.specs.Lines.{answer_in}
 use Rattle.am_lab_drawings.proofs.charts.told_right.Goals as goal
 
 pub drawn-requires-clause-checked : goal.drawn-requires-clause-checked
