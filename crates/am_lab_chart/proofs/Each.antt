@@ -1,7 +1,6 @@
 -- A loop that appends a piece for each item of a list: what stands there with what is left to append stays the same.
 use Rattle.std.proofs.Common.{◌≡◌, ℕ, ◌+◌, ◌<◌, List, ◌∷◌, ◌++◌, drop, get_or, length, ap, sym, ◌∙◌, append_assoc}
 use Rattle.std.proofs.lemmas.List.{drop_more}
-use Rattle.am_lab_xml.specs.Trees.{Content, numbered, printed}
 
 module _ {X : Type 0} where
   pub one_more : (piece : X → List ℕ) (pieces : List X → List ℕ) (xs : List X) (i : ℕ) (x d : X) (out new all : List ℕ) →
@@ -12,20 +11,6 @@ module _ {X : Type 0} where
       ap (λ (t : List ℕ). t ++ pieces rest) appended
       ∙ append_assoc out (piece x) (pieces rest)
       ∙ sym (ap (λ (t : List ℕ). out ++ t) (ap pieces (drop_more xs i d less) ∙ ap (λ (y : X). pieces (y ∷ rest)) (sym at) ∙ first x rest))
-      ∙ stands
-
-  -- the same of items that are numbered
-  pub one_numbered : (content : ℕ → X → Content) (xs : List X) (number i : ℕ) (x d : X) (out new all : List ℕ) → i < length xs → x ≡ get_or xs i d →
-      out ++ printed (numbered content number (drop i xs)) ≡ all → new ≡ out ++ printed (content number x) →
-      new ++ printed (numbered content (number + 1) (drop (i + 1) xs)) ≡ all
-  one_numbered content xs number i x d out new all less at stands appended =
-      let rest : List X = drop (i + 1) xs in
-      let left : List ℕ = printed (numbered content (number + 1) rest) in
-      ap (λ (t : List ℕ). t ++ left) appended
-      ∙ append_assoc out (printed (content number x)) left
-      ∙ sym (ap (λ (t : List ℕ). out ++ t)
-      (ap (λ (ys : List X). printed (numbered content number ys)) (drop_more xs i d less)
-      ∙ ap (λ (y : X). printed (numbered content number (y ∷ rest))) (sym at)))
       ∙ stands
 
 -- two parts, each appended to what was there, are one

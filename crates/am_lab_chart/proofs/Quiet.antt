@@ -11,6 +11,7 @@ use Rattle.am_lab_picture.specs.Data.{LaneLists, PictureLists}
 use Rattle.am_lab_picture.specs.declared.data.Arrow.{Arrow}
 use Rattle.am_lab_picture.specs.declared.data.Cross.{Cross}
 use Rattle.am_lab_picture.specs.declared.data.Named.{Named as Message}
+use Rattle.am_lab_picture.specs.declared.data.PlacedRow.{PlacedRow}
 use Rattle.am_lab_picture.specs.declared.data.Residency.{Residency}
 use Rattle.am_lab_picture.specs.declared.data.Residency.TheVariants as Places
 use Rattle.am_lab_picture.specs.declared.data.Row.{Row}
@@ -28,7 +29,7 @@ use Rattle.am_lab_chart.specs.Bars.{amount, bar, bar_title, frame_caption, frame
 use Rattle.am_lab_chart.specs.Bars.{records, stretch}
 use Rattle.am_lab_chart.specs.Ways.{arc, arrow_title, cross_title, drawn_arrow, drawn_cross, is_own, message, straight, way_title}
 use Rattle.am_lab_chart.specs.Rows.{fate_of, fate_x, inner, inner_text, label, label_at, label_text, labelled, line_number, line_text, link, link_line, mark}
-use Rattle.am_lab_chart.specs.Rows.{row_head, row_of, row_title, texts_of, x_of}
+use Rattle.am_lab_chart.specs.Rows.{placed_row, row_head, row_of, row_title, texts_of, x_of}
 use Rattle.am_lab_chart.specs.Known.{occurs}
 use Rattle.am_lab_chart.specs.Lanes.{band, dotted, end_head, end_title, end_words, head, interface, interface_lane, interface_title, interface_words, node_words, nodes, pages_of}
 use Rattle.am_lab_chart.specs.Lanes.{repeated, tag_size, tag_words}
@@ -37,7 +38,7 @@ use Rattle.am_lab_chart.specs.Tables.{heads}
 use Rattle.am_lab_chart.specs.Drawing.{shapes, definitions, description, drawing, entries_of, front, inside, lanes_of, legend, page, scale, size_class, totals}
 use Rattle.am_lab_chart.specs.Drawing.{svg_attributes}
 use Rattle.am_lab_chart.specs.Titles.{head_titles, interface_titles, lane_titles, level_titles, nodes_titles, row_titles, titles_before}
-use Rattle.am_lab_chart.proofs.Titled.{Has, Holds, a_title, both, break, choice, each_has, each_under, each_with, either, element, nothing, numbered_has, under_title}
+use Rattle.am_lab_chart.proofs.Titled.{Has, Holds, a_title, both, break, choice, each_has, each_under, each_with, either, element, nothing, each_row, under_title}
 use Rattle.am_lab_chart.proofs.Lines.{AreTexts, a_number, line_is_text, more, none, number_is_text, serial_is_text, tag_is_text}
 
 sign : (s : List ℕ) (x y : ℕ) (class : List ℕ) → Has [] (sign_at s x y class)
@@ -360,7 +361,7 @@ entries_have p left =
     subst (λ (titles : List Word). Holds (row_titles p) titles (entries_of p left)) (sym (append_assoc arrows crosses (row_titles p)))
     (both _ _ (each_under (drawn_arrow p left) (λ (a : Arrow). joined (arrow_title a)) (way p left) p.arrows)
     (both _ _ (each_under (drawn_cross p left) (λ (c : Cross). joined (cross_title c)) (lost p left) p.crosses)
-    (numbered_has (row_of p left) (λ (row : Row). printed row.entry) (row_has p left) p.first p.rows)))
+    (each_row (placed_row p left) (λ (placed : PlacedRow). printed placed.row.entry) (λ (placed : PlacedRow). row_has p left placed.line placed.row) p.rows)))
 
 pub inside_has : (p : PictureLists) (left : ℕ) → Holds (row_titles p) (titles_before p ++ row_titles p) (inside p left)
 unfolding inside lanes_titles ways_titles

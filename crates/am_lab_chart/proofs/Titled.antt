@@ -1,10 +1,10 @@
 -- Contents that are sound, and the titles that they hold.
-use Rattle.std.proofs.Common.{◌≡◌, ℕ, ◌+◌, Bool, true, false, ◌&&◌, List, [], ◌∷◌, ◌++◌, codes, flat_map, map, refl, if◌then◌else◌}
+use Rattle.std.proofs.Common.{◌≡◌, ℕ, Bool, true, false, ◌&&◌, List, [], ◌∷◌, ◌++◌, codes, flat_map, map, refl, if◌then◌else◌}
 use Rattle.am_lab_chart.specs.Captions.{holding, joined, title, titled}
 use Rattle.am_lab_chart.proofs.Lines.{AreTexts, joined_is_text}
 use Rattle.am_lab_xml.specs.Escaped.{is_text}
 use Rattle.am_lab_xml.specs.Reading.{are_led, are_texts, first_texts, is_bare, texts}
-use Rattle.am_lab_xml.specs.Trees.{Content, Named, are_names, each, is_name, is_sound, name_of, numbered}
+use Rattle.am_lab_xml.specs.Trees.{Content, Named, are_names, each, is_name, is_sound, name_of}
 use Rattle.am_lab_xml.specs.Trees.{Content as Contents}
 
 -- sound; these are the texts of its title elements, which hold texts alone, and of those with which its rows begin
@@ -82,7 +82,7 @@ module _ {X : Type 0} where
   each_under f title h [] = nothing
   each_under f title h (x ∷ xs) = both (f x) (each f xs) (h x) (each_under f title h xs)
 
-  pub numbered_has : (f : ℕ → X → Content) (title : X → List ℕ) → ((n : ℕ) (x : X) → Holds (title x ∷ []) (title x ∷ []) (f n x)) → (n : ℕ) (xs : List X) →
-      Holds (map title xs) (map title xs) (numbered f n xs)
-  numbered_has f title h n [] = nothing
-  numbered_has f title h n (x ∷ xs) = both (f n x) (numbered f (n + 1) xs) (h n x) (numbered_has f title h (n + 1) xs)
+  pub each_row : (f : X → Content) (title : X → List ℕ) → ((x : X) → Holds (title x ∷ []) (title x ∷ []) (f x)) → (xs : List X) →
+      Holds (map title xs) (map title xs) (each f xs)
+  each_row f title h [] = nothing
+  each_row f title h (x ∷ xs) = both (f x) (each f xs) (h x) (each_row f title h xs)

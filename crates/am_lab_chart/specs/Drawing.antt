@@ -2,7 +2,7 @@
 use Rattle.std.specs.Prelude.{ℕ, ◌-◌, List, [], ◌∷◌, codes, if◌then◌else◌}
 use Rattle.am_lab_picture.specs.Data.{PictureLists}
 use Rattle.am_lab_xml.specs.Attributes.{place}
-use Rattle.am_lab_xml.specs.Trees.{Content, Named, each, numbered, printed}
+use Rattle.am_lab_xml.specs.Trees.{Content, Named, each, printed}
 use Rattle.am_lab_xml.specs.Trees.{Content as Contents}
 use Rattle.am_lab_chart.specs.declared.tables.TheConstants.{STYLE}
 use Rattle.am_lab_chart.specs.Tables.{bar_meanings, call_meanings, call_shapes, ending_shapes, event_meanings, event_shapes, fate_meanings, fate_shapes, heads}
@@ -13,7 +13,7 @@ use Rattle.am_lab_chart.specs.Legends.{arrow_head, below, meanings, shape, style
 use Rattle.am_lab_chart.specs.Lanes.{end_head, nodes}
 use Rattle.am_lab_chart.specs.Bars.{lane_bars}
 use Rattle.am_lab_chart.specs.Ways.{drawn_arrow, drawn_cross}
-use Rattle.am_lab_chart.specs.Rows.{row_of}
+use Rattle.am_lab_chart.specs.Rows.{placed_row}
 
 -- signs are small, and lines thin, where rows have no text
 unfoldable pub scale : PictureLists → List ℕ
@@ -75,7 +75,7 @@ lanes_of p left =
 -- the ways of the packets, and the rows of the entries
 unfoldable pub entries_of : PictureLists → ℕ → Content
 entries_of p left =
-    Contents.Both (each (drawn_arrow p left) p.arrows) (Contents.Both (each (drawn_cross p left) p.crosses) (numbered (row_of p left) p.first p.rows))
+    Contents.Both (each (drawn_arrow p left) p.arrows) (Contents.Both (each (drawn_cross p left) p.crosses) (each (placed_row p left) p.rows))
 
 unfoldable pub inside : PictureLists → ℕ → Content
 inside p left =

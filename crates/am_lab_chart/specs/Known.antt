@@ -5,6 +5,7 @@ use Rattle.std.specs.List.{list_any}
 use Rattle.am_lab_picture.specs.Data.{LaneLists, PictureLists}
 use Rattle.am_lab_picture.specs.declared.data.Arrow.{Arrow}
 use Rattle.am_lab_picture.specs.declared.data.Cross.{Cross}
+use Rattle.am_lab_picture.specs.declared.data.PlacedRow.{PlacedRow}
 use Rattle.am_lab_picture.specs.declared.data.Residency.{Residency}
 use Rattle.am_lab_picture.specs.declared.data.Row.{Row}
 use Rattle.am_lab_picture.specs.declared.data.Span.{Span}
@@ -22,6 +23,9 @@ abbrev pub is_in_row : List ℕ → Row → Bool
 is_in_row key row =
     bytes_eq (class_of row.about) key || bytes_eq (sign_of row.entry.event row.entry.outcome) key ||
     bytes_eq (link_sign (link_of row.entry.event row.entry.outcome)) key
+
+abbrev pub is_in_placed : List ℕ → PlacedRow → Bool
+is_in_placed key placed = is_in_row key placed.row
 
 -- an arrow: how it is dashed
 abbrev pub is_in_arrow : List ℕ → Arrow → Bool
@@ -47,4 +51,4 @@ is_in_lane key lane =
 
 abbrev pub occurs : PictureLists → List ℕ → Bool
 occurs p key =
-    list_any (is_in_row key) p.rows || list_any (is_in_arrow key) p.arrows || list_any (is_in_cross key) p.crosses || list_any (is_in_lane key) p.lanes
+    list_any (is_in_placed key) p.rows || list_any (is_in_arrow key) p.arrows || list_any (is_in_cross key) p.crosses || list_any (is_in_lane key) p.lanes

@@ -6,6 +6,7 @@ use Rattle.am_office_entries.specs.declared.Outcome.{Outcome}
 use Rattle.am_office_entries.specs.declared.Outcome.TheVariants as Out
 use Rattle.am_lab_picture.specs.Data.{PictureLists}
 use Rattle.am_lab_picture.specs.declared.data.Named.{Named}
+use Rattle.am_lab_picture.specs.declared.data.PlacedRow.{PlacedRow}
 use Rattle.am_lab_picture.specs.declared.data.Row.{Row}
 use Rattle.am_lab_xml.specs.Trees.{Content}
 use Rattle.am_lab_xml.specs.Trees.{Content as Contents}
@@ -124,3 +125,7 @@ row_at p left y line row = Contents.Both (row_head p y line row) (mark p left (x
 -- the row of an entry that stands in this line of the report
 unfoldable pub row_of : PictureLists → ℕ → ℕ → Row → Content
 row_of p left line row = Contents.Both (Contents.Element (codes "g") [] (row_at p left (y_of p line) line row)) Contents.Break
+
+-- a row in its line
+abbrev pub placed_row : PictureLists → ℕ → PlacedRow → Content
+placed_row p left placed = row_of p left placed.line placed.row

@@ -4,8 +4,8 @@ use Rattle.am_check_lines.specs.Grammar.{printed}
 use Rattle.am_lab_picture.specs.Data.{LaneLists, PictureLists}
 use Rattle.am_lab_picture.specs.declared.data.Arrow.{Arrow}
 use Rattle.am_lab_picture.specs.declared.data.Cross.{Cross}
+use Rattle.am_lab_picture.specs.declared.data.PlacedRow.{PlacedRow}
 use Rattle.am_lab_picture.specs.declared.data.Residency.{Residency}
-use Rattle.am_lab_picture.specs.declared.data.Row.{Row}
 use Rattle.am_lab_picture.specs.declared.data.Span.{Span}
 use Rattle.am_lab_picture.specs.Layout.Layout.{has_interfaces}
 use Rattle.am_names.specs.declared.EndpointId.{EndpointId}
@@ -48,4 +48,4 @@ titles_before p =
 
 -- and of the rows: the lines of their entries
 abbrev pub row_titles : PictureLists → List Word
-row_titles p = map (λ (row : Row). printed row.entry) p.rows
+row_titles p = map (λ (placed : PlacedRow). printed placed.row.entry) p.rows

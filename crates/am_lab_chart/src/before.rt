@@ -97,7 +97,7 @@ pub fn chart_before(
     // Its titles, in order and read as text, are those of the picture, and last that of the fault.
     ensures titles { IfOk result (λ text. texts_in (codes "title") text.items ≡ before.titles_with picture.now line) }
     // Those of the rows, with which each `g` begins, are the lines of the rows' entries.
-    ensures rows { IfOk result (λ text. first_texts_in (codes "g") (codes "title") text.items ≡ map (λ row. lines.printed row.entry) picture.now.rows) }
+    ensures rows { IfOk result (λ text. first_texts_in (codes "g") (codes "title") text.items ≡ map (λ placed. lines.printed placed.row.entry) picture.now.rows) }
 {
     text_of(alloc, picture, line, told)
 }

@@ -21,7 +21,7 @@ use crate::tables::{
 };
 use crate::ways::{put_arrows, put_crosses};
 use am_lab_picture::layout::{bottom, has_text, width};
-use am_lab_picture::{Picture, Row};
+use am_lab_picture::{Picture, PlacedRow};
 use am_lab_xml::Attribute::{Number, Path, Word};
 use am_lab_xml::{Point, put_break, put_close, put_empty, put_open};
 use am_names::NoMemory;
@@ -107,7 +107,7 @@ fn put_entries(
 {
     put_arrows(out, alloc, picture, left, &picture.arrows)?;
     put_crosses(out, alloc, picture, left, &picture.crosses)?;
-    put_rows(out, alloc, picture, left, picture.first, &picture.rows)
+    put_rows(out, alloc, picture, left, &picture.rows)
 }
 
 /// Appends what stands inside a picture.
@@ -188,12 +188,12 @@ fn put_drawing(
 }
 
 // The length of the longest line.
-fn longest(alloc: Global, rows: &[Row]) -> Result<usize, NoMemory>
+fn longest(alloc: Global, rows: &[PlacedRow]) -> Result<usize, NoMemory>
     ensures { IfOk result (λ length. length ≡ layout.longest rows.now) }
 {
     let mut longest = 0;
-    for row in rows {
-        let text = line_of(alloc, &row.entry)?;
+    for placed in rows {
+        let text = line_of(alloc, &placed.row.entry)?;
         longest = text.len().max(longest);
     }
     Ok(longest)
@@ -235,7 +235,7 @@ pub fn chart(alloc: Global, picture: &Picture) -> Result<Vec<u8>, NoMemory>
     // Its titles, in order and read as text, are those of heads, bars, arrows and crosses, and then those of the rows.
     ensures titles { IfOk result (λ text. texts_in (codes "title") text.items ≡ titles_before picture.now ++ row_titles picture.now) }
     // Those of the rows, with which each `g` begins, are the lines of the rows' entries.
-    ensures rows { IfOk result (λ text. first_texts_in (codes "g") (codes "title") text.items ≡ map (λ row. lines.printed row.entry) picture.now.rows) }
+    ensures rows { IfOk result (λ text. first_texts_in (codes "g") (codes "title") text.items ≡ map (λ placed. lines.printed placed.row.entry) picture.now.rows) }
 {
     text_of(alloc, picture)
 }

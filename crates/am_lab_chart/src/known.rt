@@ -7,7 +7,7 @@ ghost use Rattle.am_lab_chart.specs.Known as known;
 use am_lab_picture::layout::{
     Link, class_of, ending_sign, link_of, packet_dashes, place_class, sign_of,
 };
-use am_lab_picture::{Arrow, Cross, Lane, Picture, Residency, Row, Span};
+use am_lab_picture::{Arrow, Cross, Lane, Picture, PlacedRow, Residency, Row, Span};
 
 fn link_sign(to: Option<Link>) -> &'static str
     ensures { result.now ≡ known.link_sign to }
@@ -63,11 +63,11 @@ fn is_in_lane(key: &str, lane: &Lane) -> bool
         || is_level(key, "received", &lane.received)
 }
 
-fn is_in_rows(key: &str, rows: &[Row]) -> bool
-    ensures { result ≡ list_any (known.is_in_row key.now) rows.now }
+fn is_in_rows(key: &str, rows: &[PlacedRow]) -> bool
+    ensures { result ≡ list_any (known.is_in_placed key.now) rows.now }
 {
-    for row in rows {
-        if is_in_row(key, row) {
+    for placed in rows {
+        if is_in_row(key, &placed.row) {
             return true;
         }
     }

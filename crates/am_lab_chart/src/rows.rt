@@ -1,10 +1,10 @@
 //! The row of an entry.
 
-ghost use Rattle.std.specs.Prelude.{◌≡◌, ◌≤◌, ◌<◌, ◌+◌, ◌^◌, ◌++◌, IfOk, OnOk, length, option_map};
+ghost use Rattle.std.specs.Prelude.{◌≡◌, ◌≤◌, ◌++◌, IfOk, OnOk, option_map};
 ghost use Rattle.am_check_lines.specs.Grammar as lines;
 ghost use Rattle.am_lab_picture.specs.Layout.Layout.{IsDrawable};
 ghost use Rattle.am_lab_chart.specs.Rows as rows;
-ghost use Rattle.am_lab_xml.specs.Trees.{numbered, printed};
+ghost use Rattle.am_lab_xml.specs.Trees.{each, printed};
 ghost use Rattle.am_office_text.specs.Pieces.{word_of};
 
 use crate::captions::{put_caption, put_holding, put_sign};
@@ -12,7 +12,7 @@ use am_lab_picture::layout::{
     Ending, Link, Spot, class_of, ending_dashes, ending_sign, fate_class, fate_sign, has_text,
     head_of, inner_of, label_of, link_of, sign_of, spot_of, x_of_end, x_of_interface, y_of,
 };
-use am_lab_picture::{Named, Picture, Row};
+use am_lab_picture::{Named, Picture, PlacedRow, Row};
 use am_lab_xml::Attribute::{Number, Word};
 use am_lab_xml::{put_break, put_close, put_empty, put_open};
 use am_names::NoMemory;
@@ -378,24 +378,20 @@ fn put_row(
     Ok(())
 }
 
-/// Appends rows, of which the first is this line of the report.
+/// Appends rows.
 pub(crate) fn put_rows(
     out: &mut Vec<u8>,
     alloc: Global,
     picture: &Picture,
     left: u64,
-    first: u32,
-    entries: &[Row],
+    placed_rows: &[PlacedRow],
 ) -> Result<(), NoMemory>
     requires drawable { IsDrawable picture.now }
     requires narrow { left ≤ 4000 }
-    requires lines { first + length entries.now < 2 ^ 32 }
-    ensures { OnOk result (out.new.items ≡ out.old.items ++ printed (numbered (rows.row_of picture.now left) first entries.now)) }
+    ensures { OnOk result (out.new.items ≡ out.old.items ++ printed (each (rows.placed_row picture.now left) placed_rows.now)) }
 {
-    let mut line = first;
-    for row in entries {
-        put_row(out, alloc, picture, left, line, *row)?;
-        line += 1;
+    for placed in placed_rows {
+        put_row(out, alloc, picture, left, placed.line, placed.row)?;
     }
     Ok(())
 }

@@ -6,3 +6,5 @@ pub mod Passing
 pub mod Showing
 pub mod Told
 pub mod Receipts
+pub mod Touched
+mod Picturing

@@ -33,7 +33,8 @@ use Rattle.am_names.specs.declared.Way.{Way}
 use Rattle.am_lab_picture.proofs.Finding.{position_push}
 use Rattle.am_lemmas.proofs.Bools.{and_first, and_second}
 use Rattle.am_lab_picture.proofs.Shown.{found_at, node_is}
-use Rattle.am_lab_drawings.specs.View.Laws.{EachReceiptHasItsArrow, all_lines, receipt_line}
+use Rattle.am_lab_drawings.specs.View.Laws.{EachReceiptHasItsArrow, receipt_line}
+use Rattle.am_lab_drawings.specs.View.Parts.{all_lines}
 
 -- ---- what was emitted is found
 

@@ -1,3 +1,4 @@
 pub mod Charts
+pub mod Messages
 pub mod View
 pub mod Fronts

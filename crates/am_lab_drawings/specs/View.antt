@@ -1,4 +1,5 @@
 pub mod Parts
 pub mod Standings
 pub mod Pictures
+pub mod Messages
 pub mod Laws

@@ -11,6 +11,7 @@ ghost use Rattle.std.specs.Prelude.{◌≡◌, ◌⊎◌, ◌<◌, ◌^◌, Err,
 
 mod lanes;
 mod laws;
+mod messages;
 mod parts;
 mod pictures;
 mod steps;
@@ -22,7 +23,12 @@ pub use am_lab_picture::Picture;
 use am_lab_reasons::parts_of;
 use am_names::NoMemory;
 use am_scenario::Form;
-pub use laws::{each_receipt_has_its_arrow, lanes_are_the_states, receipts_are_those_of_reasons};
+pub use laws::{
+    each_receipt_has_its_arrow, lanes_are_the_states, message_pictures_are_of_messages,
+    receipts_are_those_of_reasons,
+};
+pub use messages::message_picture;
+pub(crate) use parts::MOST_ROWS;
 pub use parts::{LineRange, PictureFault};
 use std::alloc::Global;
 

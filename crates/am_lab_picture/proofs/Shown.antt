@@ -1,6 +1,6 @@
 -- Rows, arrows and crosses are what the journal says.
 use Rattle.std.proofs.Common.{◌≡◌, ℕ, zero, suc, ◌+◌, ◌-◌, ◌≤◌, Bool, true, false, not, ◌==◌, ◌&&◌, cond, List, [], ◌∷◌, ◌++◌, Option, Some, None, IfSome, map}
-use Rattle.std.proofs.Common.{take, drop, refl, sym, ap, ◌∙◌, subst, true≢false, arith, slice_get, filter_map, if◌then◌else◌}
+use Rattle.std.proofs.Common.{take, drop, refl, sym, ap, ◌∙◌, subst, arith, slice_get, filter_map, if◌then◌else◌}
 use Rattle.std.specs.List.{AllByRecursion, filter, position_from, cons_option}
 use Rattle.std.specs.Option.{option_map}
 use Rattle.std.proofs.lemmas.Bool.{eqb-true}
@@ -12,15 +12,16 @@ use Rattle.am_office_entries.specs.declared.Entry.{Entry}
 use Rattle.am_lab_picture.specs.Abouts.{about_of, reply_of}
 use Rattle.am_lab_picture.specs.Arrows.{arrow, arrow_at, arrow_by, arrow_from, arrow_of, arrow_shown, cross, cross_by, if_shown, is_shown}
 use Rattle.am_lab_picture.specs.Laws.{ArrowsJoinEmissionsToReceipts, CrossesAreOfTheUnreceived, CrossesStandAtEmissions, HasItsFate, IsArrow, IsCross, IsInLine}
-use Rattle.am_lab_picture.specs.Laws.{IsRow, RowsAreEntries, RowsTellFates}
+use Rattle.am_lab_picture.specs.Laws.{IsPlaced, IsRow, PlacedRowsAreRows, RowsAreEntries, RowsStandInTheirLines, RowsTellFates}
 use Rattle.am_lemmas.proofs.Bools.{and_first, and_second}
 use Rattle.am_lemmas.specs.Numbered.{numbered}
-use Rattle.am_lab_picture.specs.Rows.{entries_in, named_by, row}
+use Rattle.am_lab_picture.specs.Rows.{entries_in, named_by, row, row_in}
 use Rattle.am_lab_picture.specs.Ways.{emits, emitter, is_received, is_way, received_way, same_way}
 use Rattle.am_names.specs.Packets.{way_of}
 use Rattle.am_lab_picture.specs.declared.data.Arrow.{Arrow}
 use Rattle.am_lab_picture.specs.declared.data.Cross.{Cross}
 use Rattle.am_lab_picture.specs.declared.data.Lines.{Lines}
+use Rattle.am_lab_picture.specs.declared.data.PlacedRow.{PlacedRow}
 use Rattle.am_lab_picture.specs.declared.data.Row.{Row}
 use Rattle.am_names.specs.declared.Way.{Way}
 
@@ -227,4 +228,28 @@ pub crosses_stand : CrossesStandAtEmissions
 crosses_stand lines journal low' =
     numbered_all (IsCross journal) journal (cross journal) (λ line x there. cross_is journal line x (emitted_of x) there refl)
     lines.first (lines.first - 3) (entries_in lines journal) (omega (arith, low'))
+    (λ k x at. dropped_get (lines.first - 3) k journal x (taken_get lines.count k (drop (lines.first - 3) journal) x at))
+
+-- ---- rows in their lines
+
+placed_are : (journal : List Entry) (line : ℕ) (xs : List Entry) →
+    map (λ (placed : PlacedRow). placed.row) (numbered (row_in journal) line xs) ≡ map (row journal) xs
+placed_are journal line [] = refl
+placed_are journal line (x ∷ xs) = ap (λ (l : List Row). row journal x ∷ l) (placed_are journal (line + 1) xs)
+
+pub placed_rows_are_rows : PlacedRowsAreRows
+placed_rows_are_rows lines journal = placed_are journal lines.first (entries_in lines journal)
+
+is_placed : (journal : List Entry) (line : ℕ) (x : Entry) → IsInLine journal line x → AllByRecursion (IsPlaced journal) (row_in journal line x)
+is_placed journal line x there = (
+  record {
+    there = there;
+    row' = record { about = refl; reply = refl; fate' = named_fate journal (about_of x); reply_fate = named_fate journal (reply_of x) };
+  },
+  tt,
+)
+
+pub rows_stand : RowsStandInTheirLines
+rows_stand lines journal low' =
+    numbered_all (IsPlaced journal) journal (row_in journal) (is_placed journal) lines.first (lines.first - 3) (entries_in lines journal) (omega (arith, low'))
     (λ k x at. dropped_get (lines.first - 3) k journal x (taken_get lines.count k (drop (lines.first - 3) journal) x at))

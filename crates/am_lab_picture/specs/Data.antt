@@ -6,8 +6,8 @@ use Rattle.am_names.specs.declared.Tag.{Tag}
 use Rattle.am_scenario_types.specs.declared.parts.Network.{Network}
 use Rattle.am_lab_picture.specs.declared.data.Arrow.{Arrow}
 use Rattle.am_lab_picture.specs.declared.data.Cross.{Cross}
+use Rattle.am_lab_picture.specs.declared.data.PlacedRow.{PlacedRow}
 use Rattle.am_lab_picture.specs.declared.data.Residency.{Residency}
-use Rattle.am_lab_picture.specs.declared.data.Row.{Row}
 use Rattle.am_lab_picture.specs.declared.data.Span.{Span}
 
 pub record LaneLists : Type 0 where
@@ -21,8 +21,7 @@ pub record LaneLists : Type 0 where
 pub record PictureLists : Type 0 where
   pub network : Network
   pub nodes : ℕ
-  pub first : ℕ
-  pub rows : List Row
+  pub rows : List PlacedRow
   pub arrows : List Arrow
   pub crosses : List Cross
   pub lanes : List LaneLists

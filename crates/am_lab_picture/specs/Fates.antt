@@ -1,5 +1,5 @@
 -- What a journal says of its messages' fates, by their serials.
-use Rattle.std.specs.Prelude.{◌≡◌, Bool, Option, Some, None, List, slice_get}
+use Rattle.std.specs.Prelude.{◌≡◌, Bool, Option, List, slice_get}
 use Rattle.std.specs.BTreeMap.{BTreeMap}
 use Rattle.std.specs.BTreeMap as maps
 use Rattle.std.specs.BTreeSet.{BTreeSet}

@@ -1,19 +1,20 @@
 -- What a picture shows, in other words.
-use Rattle.std.specs.Prelude.{◌≡◌, ℕ, ◌-◌, ◌≤◌, true, not, List, Some, IfSome, filter, filter_map, map, slice_get}
-use Rattle.std.specs.List.{AllByRecursion}
+use Rattle.std.specs.Prelude.{◌≡◌, ℕ, ◌-◌, ◌≤◌, ◌==◌, true, not, List, Some, IfSome, filter, filter_map, map, slice_get}
+use Rattle.std.specs.List.{AllByRecursion, list_any}
 use Rattle.am_names.specs.declared.Packet.{Packet}
 use Rattle.am_office_entries.specs.Entries.{emitted_of}
 use Rattle.am_office_entries.specs.Fates.{fate}
 use Rattle.am_office_entries.specs.declared.Entry.{Entry}
 use Rattle.am_lab_picture.specs.Abouts.{about_of, reply_of}
 use Rattle.am_lab_picture.specs.Arrows.{arrows, counts, crosses}
-use Rattle.am_lab_picture.specs.Rows.{entries_in, named_by, rows}
+use Rattle.am_lab_picture.specs.Rows.{entries_in, has_row, named_by, placed_rows, rows}
 use Rattle.am_lab_picture.specs.Ways.{is_received, receives}
 use Rattle.am_names.specs.Packets.{way_of}
 use Rattle.am_lab_picture.specs.declared.data.Arrow.{Arrow}
 use Rattle.am_lab_picture.specs.declared.data.Cross.{Cross}
 use Rattle.am_lab_picture.specs.declared.data.Lines.{Lines}
 use Rattle.am_lab_picture.specs.declared.data.Named.{Named}
+use Rattle.am_lab_picture.specs.declared.data.PlacedRow.{PlacedRow}
 use Rattle.am_lab_picture.specs.declared.data.Row.{Row}
 
 -- the entry in a line of the report, of which the journal's first is the third
@@ -39,6 +40,22 @@ pub record IsRow (journal : List Entry) (r : Row) : Type 0 where
 
 abbrev pub RowsTellFates : Type 0
 RowsTellFates = (lines : Lines) (journal : List Entry) → AllByRecursion (IsRow journal) (rows lines journal)
+
+-- the same rows stand in a picture, each in its line
+abbrev pub PlacedRowsAreRows : Type 0
+PlacedRowsAreRows = (lines : Lines) (journal : List Entry) → map (λ (placed : PlacedRow). placed.row) (placed_rows lines journal) ≡ rows lines journal
+
+-- a row stands in the line of its entry, and is the row of this
+pub record IsPlaced (journal : List Entry) (placed : PlacedRow) : Type 0 where
+  pub there : IsInLine journal placed.line placed.row.entry
+  pub row' : IsRow journal placed.row
+
+abbrev pub RowsStandInTheirLines : Type 0
+RowsStandInTheirLines = (lines : Lines) (journal : List Entry) → 3 ≤ lines.first → AllByRecursion (IsPlaced journal) (placed_rows lines journal)
+
+-- a line has a row where some row stands in it
+abbrev pub RowsHaveLines : Type 0
+RowsHaveLines = (rows : List PlacedRow) (line : ℕ) → has_row rows line ≡ list_any (λ (placed : PlacedRow). placed.line == line) rows
 
 -- ---- arrows
 

@@ -4,6 +4,7 @@ pub mod Ways
 pub mod Tables
 pub mod Fates
 pub mod Rows
+pub mod Messages
 pub mod Arrows
 pub mod Residencies
 pub mod Spans

@@ -33,12 +33,19 @@ pub struct Row {
     pub reply: Option<Named>,
 }
 
+/// An entry's row, and the line of the report in which the entry stands.
+#[derive(Clone, Copy)]
+pub struct PlacedRow {
+    pub line: u32,
+    pub row: Row,
+}
+
 /// A packet's way from the entry that emits it to one that receives it. A packet that is received twice has two arrows.
 #[derive(Clone, Copy)]
 pub struct Arrow {
-    /// The line of the entry that emits it, which may lie before the lines that are shown.
+    /// The line of the entry that emits it, which need not have a row.
     pub from: u32,
-    /// The line of the entry that receives it, which may lie behind them.
+    /// The line of the entry that receives it, which need not have one either.
     pub to: u32,
     pub packet: Packet,
     /// The message that it carries, or whose verdict it tells.
@@ -83,7 +90,8 @@ pub struct Standing {
 
 /// A value that stands from one line to another: behind the entry of line `from` and each later one, and no longer
 /// behind that of line `until`. What stands before the first line that is shown begins at the line before it, and what
-/// stands at the end ends at the line behind the last. The spans of a list join on, and neighbours differ.
+/// stands at the end ends at the line behind the last. The spans of a list join on, and neighbours differ, but in a picture
+/// of one message, which lacks those with no row at them.
 #[derive(Clone, Copy)]
 pub struct Span<T> {
     pub value: T,
@@ -120,21 +128,20 @@ impl Model for Lane {
     } };
 }
 
-/// A picture of some lines of a report. Contracts see its parts as lists.
+/// A picture of some lines of a report: of those from one to another, or of those that touch one message. Contracts see
+/// its parts as lists.
 #[derive(Drop)]
 pub struct Picture {
     /// In the direct network no node has an interface, and there are no packets.
     pub network: Network,
     /// How many nodes there are, 1 to 16.
     pub nodes: u8,
-    /// The line of the first row.
-    pub first: u32,
-    /// A row for each entry, in order.
-    pub rows: Vec<Row>,
-    /// An arrow for each receipt of a packet whose line, or that of the packet's emission, is shown; in the order of
+    /// A row for each entry that is shown, in order.
+    pub rows: Vec<PlacedRow>,
+    /// An arrow for each receipt of a packet whose line, or that of the packet's emission, has a row; in the order of
     /// the receipts.
     pub arrows: Vec<Arrow>,
-    /// A cross for each packet that is emitted in these lines and that no entry of the journal receives, in order.
+    /// A cross for each packet that is emitted in a line with a row and that no entry of the journal receives, in order.
     pub crosses: Vec<Cross>,
     /// A lane for each endpoint, by their numbers.
     pub lanes: Vec<Lane>,
@@ -150,7 +157,6 @@ impl Model for Picture {
     ghost view = { λ picture. record {
       network = picture.network;
       nodes = picture.nodes;
-      first = picture.first;
       rows = picture.rows.items;
       arrows = picture.arrows.items;
       crosses = picture.crosses.items;

@@ -1,6 +1,6 @@
 //! What a picture shows, in other words. Each law is the contract of a function with an empty body.
 
-ghost use Rattle.am_lab_picture.specs.Laws.{ArrowsJoinEmissionsToReceipts, CrossesAreOfTheUnreceived, CrossesStandAtEmissions, RowsAreEntries, RowsTellFates};
+ghost use Rattle.am_lab_picture.specs.Laws.{ArrowsJoinEmissionsToReceipts, CrossesAreOfTheUnreceived, CrossesStandAtEmissions, PlacedRowsAreRows, RowsAreEntries, RowsHaveLines, RowsStandInTheirLines, RowsTellFates};
 ghost use Rattle.am_lab_picture.specs.Spans.{SpansAreValues};
 ghost use Rattle.am_lab_picture.specs.declared.data.Residency.{Residency};
 ghost use Rattle.std.specs.Prelude.{ℕ};
@@ -10,6 +10,14 @@ ghost use Rattle.std.specs.Prelude.{ℕ};
 pub fn rows_are_entries()
     ensures entries { RowsAreEntries }
     ensures fates { RowsTellFates }
+{}
+
+/// A picture has these rows, in their order, each in the line of its entry; and a line has a row where one of the rows has this
+/// line.
+pub fn rows_stand_in_their_lines()
+    ensures rows { PlacedRowsAreRows }
+    ensures lines { RowsStandInTheirLines }
+    ensures found { RowsHaveLines }
 {}
 
 /// Each arrow ends in the line of an entry that receives its packet, and begins in that of the entry that emits this

@@ -1,5 +1,5 @@
 -- Trees of elements and texts, and how they are written.
-use Rattle.std.specs.Prelude.{ℕ, ◌+◌, Bool, true, false, ◌&&◌, not, List, [], ◌∷◌, ◌++◌, codes, map, flat_map, bytes_eq, nat_le, ◌||◌, ◌==◌}
+use Rattle.std.specs.Prelude.{ℕ, Bool, true, false, ◌&&◌, not, List, [], ◌∷◌, ◌++◌, codes, map, flat_map, bytes_eq, nat_le, ◌||◌, ◌==◌}
 use Rattle.std.specs.List.{list_all, list_any}
 use Rattle.am_lab_xml.specs.Escaped.{escaped}
 
@@ -43,11 +43,6 @@ module _ {X : Type 0} where
   abbrev pub each : (X → Content) → List X → Content
   each content [] = Nothing
   each content (x ∷ xs) = Both (content x) (each content xs)
-
-  -- of which the first has this number
-  abbrev pub numbered : (ℕ → X → Content) → ℕ → List X → Content
-  numbered content number [] = Nothing
-  numbered content number (x ∷ xs) = Both (content number x) (numbered content (number + 1) xs)
 
 -- ---- which trees are documents
 

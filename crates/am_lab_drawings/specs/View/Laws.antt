@@ -1,24 +1,30 @@
 -- What is shown of a report, in other words.
-use Rattle.std.specs.Prelude.{◌≡◌, ℕ, ◌+◌, ◌-◌, ◌≤◌, is_some, List, [], ◌∷◌, length, map, take, if◌then◌else◌}
+use Rattle.std.specs.Prelude.{◌≡◌, ℕ, ◌+◌, ◌-◌, ◌≤◌, is_some, List, [], ◌∷◌, length, filter, map, take, if◌then◌else◌}
 use Rattle.std.specs.List.{AllByRecursion, range_with_len}
 use Rattle.am_lab_reasons.specs.Packets as reasons
+use Rattle.am_lab_reasons.specs.Touches.{touches}
 use Rattle.am_model.specs.Endpoint.{State}
 use Rattle.am_model.specs.History.{IsHistory, state_of}
 use Rattle.am_model.specs.Layout.{Layout}
 use Rattle.am_names.specs.Packets.{from_of, number_of, receiver_of, way_of}
 use Rattle.am_names.specs.declared.EndpointId.{EndpointId}
 use Rattle.am_names.specs.declared.Packet.{Packet}
+use Rattle.am_names.specs.declared.Serial.{Serial}
 use Rattle.am_office_entries.specs.declared.Entry.{Entry}
 use Rattle.am_scenario_types.specs.Lists.{ScenarioLists}
 use Rattle.am_model_scripts.specs.Layout.{layout_of}
 use Rattle.am_lab_picture.specs.Arrows.{arrows}
 use Rattle.am_lab_picture.specs.Data.{LaneLists}
 use Rattle.am_lemmas.specs.Numbered.{numbered}
+use Rattle.am_lab_picture.specs.Laws.{IsArrow, IsCross, IsPlaced}
 use Rattle.am_lab_picture.specs.Residencies.{residency_of}
 use Rattle.am_lab_picture.specs.Spans.{AreJoined, spread}
 use Rattle.am_lab_picture.specs.Ways.{is_received, received_way}
 use Rattle.am_lab_picture.specs.declared.data.Arrow.{Arrow}
 use Rattle.am_lab_picture.specs.declared.data.Lines.{Lines}
+use Rattle.am_lab_picture.specs.declared.data.PlacedRow.{PlacedRow}
+use Rattle.am_lab_drawings.specs.View.Messages.{message_picture_of}
+use Rattle.am_lab_drawings.specs.View.Parts.{all_lines}
 use Rattle.am_lab_drawings.specs.View.Standings.{lanes}
 
 -- ---- lanes
@@ -48,10 +54,6 @@ LanesAreTheStates =
 abbrev pub ReceiptsAreThoseOfReasons : Type 0
 ReceiptsAreThoseOfReasons = (journal : List Entry) (p : Packet) → is_received journal (way_of p) ≡ reasons.is_received (from_of p) (receiver_of p) (number_of p) journal
 
--- all lines of a journal
-abbrev pub all_lines : List Entry → Lines
-all_lines journal = record { first = 3; count = length journal }
-
 -- the line of an entry, if the entry receives a packet
 abbrev pub receipt_line : ℕ → Entry → List ℕ
 receipt_line line x = if is_some (received_way x.event) then line ∷ [] else []
@@ -61,3 +63,16 @@ abbrev pub EachReceiptHasItsArrow : Type 0
 EachReceiptHasItsArrow =
     (layout : Layout) (journal : List Entry) → IsHistory layout journal
     → map (λ (a : Arrow). a.to) (arrows (all_lines journal) journal) ≡ numbered receipt_line 3 journal
+
+-- ---- one message
+
+-- The rows of a message's picture are of just the entries that touch the message, as `why` tells them, in order, each in its line; and its
+-- arrows and crosses are those of the journal.
+pub record IsOfMessage (s : ScenarioLists) (journal : List Entry) (serial : Serial) : Type 0 where
+  pub entries : map (λ (placed : PlacedRow). placed.row.entry) (message_picture_of s journal serial).rows ≡ filter (touches serial) journal
+  pub rows' : AllByRecursion (IsPlaced journal) (message_picture_of s journal serial).rows
+  pub arrows' : AllByRecursion (IsArrow journal) (message_picture_of s journal serial).arrows
+  pub crosses' : AllByRecursion (IsCross journal) (message_picture_of s journal serial).crosses
+
+abbrev pub MessagePicturesAreOfMessages : Type 0
+MessagePicturesAreOfMessages = (s : ScenarioLists) (journal : List Entry) (serial : Serial) → IsOfMessage s journal serial

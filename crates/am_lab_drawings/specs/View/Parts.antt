@@ -1,5 +1,6 @@
 -- Which lines are shown.
-use Rattle.std.specs.Prelude.{ℕ, ◌+◌, ◌-◌, Bool, ◌&&◌, nat_le, nat_lt, Option, Some, None, Result, Ok, Err, if◌then◌else◌}
+use Rattle.std.specs.Prelude.{ℕ, ◌+◌, ◌-◌, Bool, ◌&&◌, nat_le, nat_lt, List, length, Option, Some, None, Result, Ok, Err, if◌then◌else◌}
+use Rattle.am_office_entries.specs.declared.Entry.{Entry}
 use Rattle.am_lab_picture.specs.declared.data.Lines.{Lines}
 use Rattle.am_lab_drawings.specs.declared.view.parts.LineRange.{LineRange}
 use Rattle.am_lab_drawings.specs.declared.view.parts.PictureFault.{PictureFault}
@@ -20,3 +21,7 @@ part_lines part = record { first = part.from; count = part.to + 1 - part.from }
 abbrev pub lines_of : ℕ → Option LineRange → Result Lines PictureFault
 lines_of count None = few (record { first = 3; count = count })
 lines_of count (Some part) = if is_within count part then few (part_lines part) else Err NoSuchLines
+
+-- all lines of a journal
+abbrev pub all_lines : List Entry → Lines
+all_lines journal = record { first = 3; count = length journal }

@@ -9,7 +9,7 @@ use Rattle.am_scenario_types.specs.Lists.{ScenarioLists}
 use Rattle.am_scenario_types.specs.declared.parts.Form.{Form}
 use Rattle.am_lab_picture.specs.Arrows.{arrows, crosses}
 use Rattle.am_lab_picture.specs.Data.{PictureLists}
-use Rattle.am_lab_picture.specs.Rows.{rows}
+use Rattle.am_lab_picture.specs.Rows.{placed_rows}
 use Rattle.am_lab_picture.specs.declared.data.Lines.{Lines}
 use Rattle.am_lab_drawings.specs.View.Parts.{lines_of}
 use Rattle.am_lab_drawings.specs.View.Standings.{lanes}
@@ -22,8 +22,7 @@ picture_of s journal lines =
     record {
       network = s.network;
       nodes = s.nodes;
-      first = lines.first;
-      rows = rows lines journal;
+      rows = placed_rows lines journal;
       arrows = arrows lines journal;
       crosses = crosses lines journal;
       lanes = lanes s journal lines;

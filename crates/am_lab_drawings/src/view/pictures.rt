@@ -16,7 +16,9 @@ ghost use Rattle.std.specs.Prelude.{◌≡◌, ◌⊎◌, ◌+◌, ◌≤◌, �
 
 use crate::view::lanes::lanes;
 use crate::view::parts::{LineRange, PictureFault, lines_of};
-use am_lab_picture::{Arrow, Cross, IndexedJournal, Lines, Picture, Row, arrows, crosses, rows};
+use am_lab_picture::{
+    Arrow, Cross, IndexedJournal, Lines, Picture, PlacedRow, arrows, crosses, placed_rows,
+};
 use am_lab_reasons::journal::journal_of;
 use am_names::NoMemory;
 use am_office_entries::Journal;
@@ -36,7 +38,7 @@ fn summary_of(alloc: Global, journal: &Journal) -> Result<Vec<u8>, NoMemory>
 // What a picture shows of a journal alone.
 #[derive(Drop)]
 struct Shown {
-    rows: Vec<Row>,
+    rows: Vec<PlacedRow>,
     arrows: Vec<Arrow>,
     crosses: Vec<Cross>,
 }
@@ -45,11 +47,11 @@ fn shown_in(alloc: Global, indexed: &IndexedJournal, lines: Lines) -> Result<Sho
     requires first { 3 ≤ lines.first }
     requires within { lines.first + lines.count ≤ length indexed.now + 3 }
     requires few { length indexed.now + 3 < 2 ^ 32 }
-    ensures rows { IfOk result (λ shown. shown.rows.items ≡ entries.rows lines indexed.now) }
+    ensures rows { IfOk result (λ shown. shown.rows.items ≡ entries.placed_rows lines indexed.now) }
     ensures arrows { IfOk result (λ shown. shown.arrows.items ≡ ways.arrows lines indexed.now) }
     ensures crosses { IfOk result (λ shown. shown.crosses.items ≡ ways.crosses lines indexed.now) }
 {
-    let rows = rows(alloc, indexed, lines)?;
+    let rows = placed_rows(alloc, indexed, lines)?;
     let arrows = arrows(alloc, indexed, lines)?;
     let crosses = crosses(alloc, indexed, lines)?;
     Ok(Shown {
@@ -64,7 +66,7 @@ fn shown_of(alloc: Global, journal: Journal, lines: Lines) -> Result<Shown, NoMe
     requires first { 3 ≤ lines.first }
     requires within { lines.first + lines.count ≤ length journal + 3 }
     requires few { length journal + 3 < 2 ^ 32 }
-    ensures rows { IfOk result (λ shown. shown.rows.items ≡ entries.rows lines journal) }
+    ensures rows { IfOk result (λ shown. shown.rows.items ≡ entries.placed_rows lines journal) }
     ensures arrows { IfOk result (λ shown. shown.arrows.items ≡ ways.arrows lines journal) }
     ensures crosses { IfOk result (λ shown. shown.crosses.items ≡ ways.crosses lines journal) }
 {
@@ -73,8 +75,8 @@ fn shown_of(alloc: Global, journal: Journal, lines: Lines) -> Result<Shown, NoMe
     Ok(shown)
 }
 
-// The picture of some lines of a journal.
-fn drawn(
+/// The picture of some lines of a journal.
+pub(crate) fn drawn(
     alloc: Global,
     scenario: &Scenario,
     journal: Journal,
@@ -93,7 +95,6 @@ fn drawn(
     Ok(Picture {
         network: scenario.network,
         nodes: scenario.nodes,
-        first: lines.first,
         rows: shown.rows,
         arrows: shown.arrows,
         crosses: shown.crosses,

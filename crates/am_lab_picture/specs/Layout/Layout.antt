@@ -1,5 +1,5 @@
 -- Where things lie in the picture. All lengths are pixels; x grows to the right, y downwards.
-use Rattle.std.specs.Prelude.{ℕ, ◌≤◌, ◌<◌, ◌^◌, Bool, true, false, ◌+◌, ◌-◌, ◌*◌, ◌/◌, ◌%◌, ◌&&◌, ◌==◌, nat_lt, nat_le, min, max, List, [], ◌∷◌, length, count_by}
+use Rattle.std.specs.Prelude.{ℕ, ◌≤◌, Bool, true, false, ◌+◌, ◌*◌, ◌/◌, ◌%◌, ◌&&◌, ◌==◌, nat_lt, nat_le, min, max, List, [], ◌∷◌, length, count_by}
 use Rattle.std.specs.Prelude.{if◌then◌else◌}
 use Rattle.am_names.specs.declared.EndpointId.{EndpointId}
 use Rattle.am_names.specs.declared.NodeId.{NodeId}
@@ -7,12 +7,13 @@ use Rattle.am_scenario_types.specs.declared.parts.Network.{Network}
 use Rattle.am_scenario_types.specs.declared.parts.Network.TheVariants as Networks
 use Rattle.am_check_lines.specs.Grammar.{printed}
 use Rattle.am_lab_picture.specs.Data.{LaneLists, PictureLists}
-use Rattle.am_lab_picture.specs.declared.data.Row.{Row}
+use Rattle.am_lab_picture.specs.Rows.{AreInOrder, has_row, rows_before}
+use Rattle.am_lab_picture.specs.declared.data.PlacedRow.{PlacedRow}
 
--- what is drawn has at most 20,000 rows, whose lines have numbers of 32 bits, and at most 256 lanes
+-- what is drawn has at most 20,000 rows, in the order of their lines, and at most 256 lanes
 pub record IsDrawable (p : PictureLists) : Type 0 where
   pub rows : length p.rows ≤ 20000
-  pub lines : p.first + length p.rows < 2 ^ 32
+  pub order : AreInOrder p.rows
   pub lanes : length p.lanes ≤ 256
 
 -- ---- rows: 18 pixels each, or 3 pixels and no text where there are more than 400
@@ -38,12 +39,14 @@ top = 190
 unfoldable pub bottom : PictureLists → ℕ
 bottom p = top + height_of p (length p.rows)
 
--- The y of a line of the report: the middle of its row. What lies in front of the first row is at the upper edge, and what lies
--- behind the last at the lower edge.
+-- the upper edge of a line's row, or where it would stand: below the rows of earlier lines
+abbrev pub edge_of : PictureLists → ℕ → ℕ
+edge_of p line = top + height_of p (rows_before p.rows line)
+
+-- The y of a line of the report: the middle of its row. A line without one is between the rows of earlier lines and those of later
+-- ones, so what lies in front of the first row is at the upper edge, and what lies behind the last at the lower edge.
 unfoldable pub y_of : PictureLists → ℕ → ℕ
-y_of p line =
-    if nat_lt line p.first then top else
-    (if nat_lt line (p.first + length p.rows) then top + height_of p (line - p.first) + half_row p else bottom p)
+y_of p line = if has_row p.rows line then edge_of p line + half_row p else edge_of p line
 
 -- ---- lanes: each node's endpoints, ascending, and its interface: on their right at even nodes, on their left at odd ones
 
@@ -112,9 +115,9 @@ right p left = band_left p left p.nodes
 
 -- ---- the text at the left: 7 pixels for each byte of the longest line, of which 400 count at most
 
-abbrev pub longest : List Row → ℕ
+abbrev pub longest : List PlacedRow → ℕ
 longest [] = 0
-longest (row ∷ rows) = max (length (printed row.entry)) (longest rows)
+longest (placed ∷ rows) = max (length (printed placed.row.entry)) (longest rows)
 
 -- the left edge of the first band
 unfoldable pub left_edge : PictureLists → ℕ

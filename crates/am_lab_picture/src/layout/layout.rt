@@ -4,6 +4,7 @@ ghost use Rattle.std.specs.Prelude.{◌≡◌, ◌≤◌, length};
 ghost use Rattle.am_lab_picture.specs.Layout.Layout as layout;
 ghost use Rattle.am_lab_picture.specs.Layout.Layout.{IsDrawable};
 
+use crate::placed::{has_row, rows_before};
 use crate::{Lane, Picture};
 use am_names::{EndpointId, NodeId};
 use am_scenario_types::Network;
@@ -61,6 +62,15 @@ pub fn bottom(picture: &Picture) -> u64
     TOP + height_of(picture, picture.rows.len() as u64)
 }
 
+// The upper edge of a line's row, or where it would stand.
+fn edge_of(picture: &Picture, line: u32) -> u64
+    requires { IsDrawable picture.now }
+    ensures exact { result ≡ layout.edge_of picture.now line }
+    ensures low { result ≤ 370200 }
+{
+    TOP + height_of(picture, rows_before(&picture.rows, u64::from(line)) as u64)
+}
+
 /// The y of a line of the report.
 #[tactic(auto, unfolding(crate::specs::Layout::Layout::y_of))]
 pub fn y_of(picture: &Picture, line: u32) -> u64
@@ -68,14 +78,12 @@ pub fn y_of(picture: &Picture, line: u32) -> u64
     ensures exact { result ≡ layout.y_of picture.now line }
     ensures low { result ≤ 400000 }
 {
-    let (line, first) = (u64::from(line), u64::from(picture.first));
-    if line < first {
-        return TOP;
+    let edge = edge_of(picture, line);
+    if has_row(&picture.rows, line) {
+        edge + half_row(picture)
+    } else {
+        edge
     }
-    if line < first + picture.rows.len() as u64 {
-        return TOP + height_of(picture, line - first) + half_row(picture);
-    }
-    bottom(picture)
 }
 
 /// Whether nodes have interfaces.

@@ -1,12 +1,8 @@
-use Rattle.std.proofs.Common.{◌≡◌, ◌++◌, ◌+◌, drop}
-use Rattle.am_lab_xml.specs.Trees.{numbered, printed}
-use Rattle.am_lab_chart.specs.Rows.{row_of}
+use Rattle.std.proofs.Common.{◌≡◌, ◌++◌, drop}
+use Rattle.am_lab_xml.specs.Trees.{each, printed}
+use Rattle.am_lab_chart.specs.Rows.{placed_row}
 use Rattle.am_lab_chart.proofs.rows.put_rows.Given as goal
 
-abbrev pub invariant-loop-row : goal.invariant-loop-row
-invariant-loop-row l =
-    record {
-      line : l.line ≡ l.first + l.row-index;
-      out : l.out.items ++ printed (numbered (row_of l.picture l.left) l.line (drop l.row-index l.entries)) ≡ l.fn.out.items ++ printed
-          (numbered (row_of l.picture l.left) l.first l.entries);
-    }
+abbrev pub invariant-loop-placed : goal.invariant-loop-placed
+invariant-loop-placed l = l.out.items ++ printed (each (placed_row l.picture l.left) (drop l.placed-index l.placed_rows)) ≡ l.fn.out.items ++ printed
+    (each (placed_row l.picture l.left) l.placed_rows)

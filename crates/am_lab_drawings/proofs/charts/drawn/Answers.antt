@@ -10,7 +10,7 @@ use Rattle.am_lab_drawings.proofs.charts.drawn.Goals as goal
 
 pub chart-requires : goal.chart-requires
 chart-requires c =
-    drawable c.one_scenario_or_fault.ensures.lawful c.args.form c.args.bytes.now c.args.part c.in-Ok.picture c.requires.few
+    drawable c.one_scenario_or_fault.ensures.lawful c.args.form c.args.bytes.now c.args.part c.in-Ok.picture
     (shown_only c.picture.result (Shows c.args.form c.args.bytes.now c.args.part) c.picture.ensures c.in-Ok.picture c.in-Ok.is)
 
 pub returns-in-Err : goal.returns-in-Err

@@ -14,7 +14,7 @@ with_fault-requires c =
     let s = c.args.front.scenario in
     let journal = c.args.front.journal in
     let p = c.in-Ok.picture in
-    drawable_whole s journal p c.requires.lawful c.requires.few
+    drawable_whole s journal p c.requires.lawful
     (shown_only c.picture_part.result (λ (r : Result PictureLists PictureFault). r ≡ whole_picture s journal) c.picture_part.ensures p c.in-Ok.is)
 
 pub returns-in-Ok : goal.returns-in-Ok
