@@ -28,10 +28,15 @@ SLICES = (
     ("`session`", "command", "Session", "Two interfaces that restart: a machine of its own."),
     ("`count`", "command", "Count", "The words of a text, and how a round of messages counts them."),
     ("`check`", "command", "Check", "When a text is the report of a history that follows its scenario."),
+    ("A run by a seed", "definitions", (("am_lab_schedules", "SeedRuns", "IsSeedRun"),),
+     "What `am2_lab schedule`, `find` and `shrink --seed` say of a run beyond what `run` does (`IsSeedRun`): whose turn comes when "
+     "([Order](../crates/am_cluster_schedule/specs/Order.antt), which can be read alone), what each worker does in its turn, and what is made of what they left."),
     ("The lab", "contract", ("am_lab", "answer"),
      "What [`am2_lab`](LAB.md) tells of reports: the contract of its own top call, `answer`."),
 )
 COMMANDS = [it[2] for it in SLICES if it[1] == "command"]
+# How many slices, the last ones, are of the lab's program alone.
+APART = 2
 HEAD = re.compile(r"^(?P<indent> *)(?:(?:(?:pub|abbrev|unfoldable|opaque|record|data|native) )+(?P<name>[^\s:(){}]+)|(?P<bare>[^\s:(){}]+) :\s)")
 MODULE = re.compile(r"^(?P<indent> *)module \S+ (?P<parameters>.*) where")
 IMPORT = re.compile(r"^\s*(?:ghost |pub )*use ([\w.']+?)(?:\.\{([^}]*)\}| as (\w+))?;?\s*$", re.M)
@@ -212,7 +217,8 @@ class Closure:
         """A plain Rust type, with what its model is and the types of its fields; or a constant."""
         found = declaration(crate, modules, f"(?:struct|enum|const) {kind}")
         if not found:
-            sys.exit(f"believed: no type or constant {kind} in {crate}")
+            self.trait(crate, modules, kind)
+            return
         path, text = found
         if (path, kind) in self.kinds:
             return
@@ -229,6 +235,15 @@ class Closure:
             item = rust_item(path, word, "struct|enum")
             if item:
                 self.type(*item[:2], word)
+
+    def trait(self, crate, modules, name):
+        """A trait, and what its own text names."""
+        found = declaration(crate, modules, f"trait {name}")
+        if not found:
+            sys.exit(f"believed: no type, constant or trait {name} in {crate}")
+        if name not in self.traits.setdefault(found[0], set()):
+            self.traits[found[0]].add(name)
+            self.follow(names_of(code_of(found[0])), re.sub(r"\bfn \w+", "", found[1]))
 
     def follow(self, names, text, own=None):
         """All that a text names."""
@@ -333,19 +348,19 @@ def item(text):
 
 
 def page_of(made):
-    definitions, lines, type_lines = (sum(it[what] for it in made[:-1]) for what in ("definitions", "lines", "type_lines"))
-    files = len({path for it in made[:-1] for path in it["new"]})
+    definitions, lines, type_lines = (sum(it[what] for it in made[:-APART]) for what in ("definitions", "lines", "type_lines"))
+    files = len({path for it in made[:-APART] for path in it["new"]})
     out = ["# What must be believed", "", filled(
         f"The contract of [`am2`](../crates/am_main/src/top.rt), the one call that `main` makes, rests on {definitions} definitions of this repository: "
         f"{lines} lines in {files} files, and {type_lines} lines of plain Rust types of which these speak (comments, imports and empty lines aside). "
-        "Here they stand in slices, with their lines; each lists only what no earlier one has, and after each one can say what is promised so far. On the last, of `am2_lab`, "
+        "Here they stand in slices, with their lines; each lists only what no earlier one has, and after each one can say what is promised so far. On the last two, of `am2_lab`, "
         "the headline doesn't rest. [READING.md](READING.md#definitions) says how a definition is read."), ""]
     out += ["| Slice | Definitions | Lines | Lines so far | Lines of types |", "|---|---|---|---|---|"]
     so_far = 0
     for it in made:
         so_far += it["lines"]
         anchor = re.sub(r"[^\w\- ]", "", it["title"].lower()).replace(" ", "-")
-        out.append(f"| [{it['title']}](#{anchor}) | {it['definitions']} | {it['lines']} | {so_far if it is not made[-1] else 'apart'} | {it['type_lines']} |")
+        out.append(f"| [{it['title']}](#{anchor}) | {it['definitions']} | {it['lines']} | {so_far if it in made[:-APART] else 'apart'} | {it['type_lines']} |")
     out += ["", filled(
         "`check/believed.py --write` makes this page, which the gate's checks compare; `--names` prints each definition. It follows what each clause names, each trait that a contract "
         "asks for, each definition, and each type with its model: so no other definition, no lemma, and no code but the declarations of these types and traits is part of the claim. "

@@ -114,7 +114,7 @@ run_own (Err fault) answer is = inr (inl (ap (λ (a : Answer). a.status) is))
 
 schedule_own : (faults : Option ℕ) (seed : ℕ) (read : Result ScenarioLists ScenarioFault) (answer : Answer) → ScheduleAnswers faults seed read answer →
     IsOneOf (0 ∷ 3 ∷ 6 ∷ []) answer.status
-schedule_own faults seed (Ok s) answer means = run_status (tried faults seed s) answer means
+schedule_own faults seed (Ok s) answer means = run_status (tried faults seed s) answer means.answers
 schedule_own faults seed (Err fault) answer is = inr (inl (ap (λ (a : Answer). a.status) is))
 
 -- ---- explain
@@ -322,7 +322,7 @@ found_own : (faults : Option ℕ) (s : ScenarioLists) (wanted : Wanted) (given :
     IsOneOf (0 ∷ 3 ∷ 6 ∷ 12 ∷ []) answer.status
 found_own faults s wanted given from to answer f =
     as_one (0 ∷ 3 ∷ 6 ∷ 12 ∷ []) answer.status f.of_run.status (ap (λ (a : Answer). a.status) f.answer')
-    (longer (0 ∷ 3 ∷ 6 ∷ []) (12 ∷ []) f.of_run.status (run_status (tried faults f.seed s) f.of_run f.found.run))
+    (longer (0 ∷ 3 ∷ 6 ∷ []) (12 ∷ []) f.of_run.status (run_status (tried faults f.seed s) f.of_run f.found.run.answers))
 
 find_own : (faults : Option ℕ) (read : Result ScenarioLists ScenarioFault) (wanted : Wanted) (given : List ℕ) (from to : ℕ) (answer : Answer) →
     FindAnswers faults read wanted given from to answer → IsOneOf (0 ∷ 3 ∷ 6 ∷ 12 ∷ []) answer.status
@@ -333,7 +333,7 @@ find_own faults (Err fault) wanted given from to answer is = inr (inl (ap (λ (a
 first_own : (making : Making) (text : List ℕ) (first : Answer) → Answers making text first → IsOneOf (0 ∷ 3 ∷ 6 ∷ []) first.status
 first_own Makings.Steps text first answers = step_own (grammar Forms.Step text) first answers
 first_own Makings.Drain text first answers = run_own (without_turns (grammar Forms.Run text)) first answers
-first_own (Makings.Seed seed) text first answers = run_own (grammar Forms.Run text) first answers
+first_own (Makings.Seed seed) text first answers = schedule_own None seed (grammar Forms.Run text) first answers
 
 shrinks_by : (making : Making) (words text : List ℕ) (first answer : Answer) → Answers making text first → ShrinksBy making words text first answer →
     IsOneOf (0 ∷ 3 ∷ 6 ∷ 11 ∷ 12 ∷ []) answer.status

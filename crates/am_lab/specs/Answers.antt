@@ -84,9 +84,9 @@ making_of Forms.Step = Makings.Steps
 making_of Forms.Run = Makings.Drain
 
 -- The answer of a command to bytes with no line of a full log in front of a report; `given` are the words that a line is to begin with, for
--- `find` and `shrink`; `scenario make` has no bytes to look at. The answer to `schedule` is one that `run` may give, whatever the seed, to the
--- scenario that the text spells, with the plan that the seed draws if one is asked for; to `schedule` with many seeds it tells one such run for
--- each.
+-- `find` and `shrink`; `scenario make` has no bytes to look at. The answer to `schedule` tells a run in the order of the seed, of the scenario
+-- that the text spells, with the plan that the seed draws if one is asked for, and `run` may give it too; to `schedule` with many seeds it tells
+-- one such run by each.
 unfoldable pub AnswersTo : Asked → (given bytes : List ℕ) → Answer → Type 0
 AnswersTo (Commands.Explain form) given bytes answer = Explains false form bytes answer
 AnswersTo Commands.Front given bytes answer = Explains true Forms.Step bytes answer

@@ -25,7 +25,7 @@ pub none_more : (faults : Option ℕ) (s other : ScenarioLists) (wanted : Wanted
     NoneIsWanted faults s wanted given from seed → IsPassed faults other wanted given seed → NoneIsWanted faults s wanted given from (seed + 1)
 none_more faults s other wanted given from seed stands none passed n low high =
     let here : IsPassed faults s wanted given seed =
-    subst (λ (t : ScenarioLists). (of_run : Answer) × IsRunThat t wanted given false of_run) (sym (stands.alike seed)) passed in
+    subst (λ (t : ScenarioLists). (of_run : Answer) × IsRunThat t seed wanted given false of_run) (sym (stands.alike seed)) passed in
     ⊎_elim (λ (below : n < seed). none n low below) (λ (last : seed ≤ n). let same : seed ≡ n = omega (arith, high, last) in subst (λ (k : ℕ). IsPassed faults s wanted given k) same here) (cases_lt n seed)
 
 -- what is said where nothing is found, where it isn't
@@ -39,9 +39,9 @@ where_some {A} P found x is says = subst (λ (o : Option A). IfSome o P) is says
 
 -- the run that is looked for, of the scenario that another one stands for
 pub found_alike : (faults : Option ℕ) (s other : ScenarioLists) (wanted : Wanted) (given : List ℕ) (seed : ℕ) (of_run : Answer) → StandsFor faults s other →
-    IsRunThat (tried faults seed other) wanted given true of_run → IsRunThat (tried faults seed s) wanted given true of_run
+    IsRunThat (tried faults seed other) seed wanted given true of_run → IsRunThat (tried faults seed s) seed wanted given true of_run
 found_alike faults s other wanted given seed of_run stands found =
-    subst (λ (t : ScenarioLists). IsRunThat t wanted given true of_run) (sym (stands.alike seed)) found
+    subst (λ (t : ScenarioLists). IsRunThat t seed wanted given true of_run) (sym (stands.alike seed)) found
 
 -- what stands in front of a report is read there again
 read_before : (faults : Option ℕ) (s : ScenarioLists) → IsLawful s → IsOfForm Run s → IsReadBefore faults s
@@ -50,7 +50,7 @@ read_before (Some percent) s lawful of_form = printed_run_is_read s lawful of_fo
 
 -- the answer where a seed is found
 pub is_found : {E : Type 0} (faults : Option ℕ) (s other : ScenarioLists) (wanted : Wanted) (given : List ℕ) (from to seed : ℕ) (of_run : Answer) (result : Result Output E) →
-    from ≤ seed → seed < to → NoneIsWanted faults s wanted given from seed → IsRunThat (tried faults seed s) wanted given true of_run →
+    from ≤ seed → seed < to → NoneIsWanted faults s wanted given from seed → IsRunThat (tried faults seed s) seed wanted given true of_run →
     other ≡ tried faults seed s → StandsFor faults s other →
     IfOk result (λ (output : Output). answer_in output ≡ found_seed seed (scenario_before faults other) of_run) →
     IfOk result (λ (output : Output). FindsSeed faults s wanted given from to (answer_in output) ⊎ FindsNone faults s wanted given from to (answer_in output))

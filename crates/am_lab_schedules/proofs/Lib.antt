@@ -4,3 +4,4 @@ pub mod Printed
 pub mod FromTheFront
 pub mod Finding
 pub mod Trying
+pub mod Ordered

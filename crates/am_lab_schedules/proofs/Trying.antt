@@ -1,6 +1,7 @@
 -- Scenarios that may be tried in each other's place.
 use Rattle.std.proofs.Common.{◌≡◌, ℕ, Option, Some, None, refl, sym, subst, ◌∙◌}
-use Rattle.am_lab_schedules.specs.Schedules.{IsMade, IsMadeBy}
+use Rattle.am_lab_schedules.specs.Schedules.{IsMade}
+use Rattle.am_lab_schedules.specs.SeedRuns.{IsSeedRun}
 use Rattle.am_lab_schedules.specs.Trials.{StandsFor, tried}
 use Rattle.am_lab_schedules.specs.declared.outcomes.runs.SeedRun.{SeedRun}
 use Rattle.am_scenario_types.specs.Lawful.{IsLawful, IsOfForm}
@@ -33,12 +34,14 @@ stands_further faults s other further one next = record {
   of_form = next.of_form;
 }
 
--- a run of the scenario that its seed is tried with
+-- a run by its seed of the scenario that this seed is tried with
 pub is_made : (faults : Option ℕ) (seed : ℕ) (s other : ScenarioLists) (run : SeedRun) → other ≡ tried faults seed s → run.seed ≡ seed →
-    IsMadeBy other run.full run.journal → IsMade faults s run
+    IsSeedRun other seed run.full run.journal → IsMade faults s run
 is_made faults seed s other run is same made =
-    subst (λ (n : ℕ). IsMadeBy (tried faults n s) run.full run.journal) (sym same) (subst (λ (t : ScenarioLists). IsMadeBy t run.full run.journal) is made)
+    subst (λ (n : ℕ). IsSeedRun (tried faults n s) n run.full run.journal) (sym same)
+    (subst (λ (t : ScenarioLists). IsSeedRun t seed run.full run.journal) is made)
 
 -- and of one that it stands for
 pub made_alike : (faults : Option ℕ) (s other : ScenarioLists) (run : SeedRun) → StandsFor faults s other → IsMade faults other run → IsMade faults s run
-made_alike faults s other run stands made = subst (λ (t : ScenarioLists). IsMadeBy t run.full run.journal) (sym (stands.alike run.seed)) made
+made_alike faults s other run stands made =
+    subst (λ (t : ScenarioLists). IsSeedRun t run.seed run.full run.journal) (sym (stands.alike run.seed)) made

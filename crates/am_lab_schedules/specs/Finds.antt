@@ -3,11 +3,11 @@ use Rattle.std.specs.Prelude.{◌≡◌, ◌⊎◌, ℕ, ◌<◌, ◌≤◌, Boo
 use Rattle.std.specs.Fmt.{decimal}
 use Rattle.am_lab_schedules.specs.Beginnings.{has_line_with}
 use Rattle.am_lab_scenarios.specs.Spelling.Texts.{scenario_text}
+use Rattle.am_lab_schedules.specs.SeedRuns.{IsSeedAnswer}
 use Rattle.am_lab_schedules.specs.Trials.{tried}
 use Rattle.am_lab_schedules.specs.declared.finds.Wanted.{Wanted}
 use Rattle.am_lab_schedules.specs.declared.finds.Wanted.TheVariants.{WithLine, WithoutLine}
 use Rattle.am_main_lines.specs.Lines.{Answer, refusal}
-use Rattle.am_main_run.specs.Runs.{IsRunAnswer}
 use Rattle.am_office_text.specs.Words.{line}
 use Rattle.am_scenario.specs.Laws.{Spells}
 use Rattle.am_scenario_types.specs.Lists.{ScenarioLists}
@@ -44,14 +44,14 @@ no_such_line from to = codes "no such seed in " ++ range_text from to ++ codes "
 abbrev pub no_such_seed : (from to : ℕ) → Answer
 no_such_seed from to = record { status = 12; text = no_such_line from to }
 
--- what `run` may answer of the scenario, and the report is looked for or isn't
-pub record IsRunThat (s : ScenarioLists) (wanted : Wanted) (given : List ℕ) (so : Bool) (of_run : Answer) : Type 0 where
-  pub run : IsRunAnswer s of_run
+-- the answer tells a run of the scenario by this seed, and the report is looked for or isn't
+pub record IsRunThat (s : ScenarioLists) (seed : ℕ) (wanted : Wanted) (given : List ℕ) (so : Bool) (of_run : Answer) : Type 0 where
+  pub run : IsSeedAnswer s seed of_run
   pub so' : is_wanted wanted given of_run.text ≡ so
 
--- there is a run of the scenario that this seed is tried with, and its report isn't looked for
+-- there is a run by this seed of the scenario that it is tried with, and its report isn't looked for
 abbrev pub IsPassed : (faults : Option ℕ) → ScenarioLists → Wanted → (given : List ℕ) → (seed : ℕ) → Type 0
-IsPassed faults s wanted given seed = (of_run : Answer) × IsRunThat (tried faults seed s) wanted given false of_run
+IsPassed faults s wanted given seed = (of_run : Answer) × IsRunThat (tried faults seed s) seed wanted given false of_run
 
 -- there is one for each seed from one up to another, which isn't among them
 abbrev pub NoneIsWanted : (faults : Option ℕ) → ScenarioLists → Wanted → (given : List ℕ) → (from to : ℕ) → Type 0
@@ -64,7 +64,7 @@ pub record FindsSeed (faults : Option ℕ) (s : ScenarioLists) (wanted : Wanted)
   pub high : seed < to
   pub before : NoneIsWanted faults s wanted given from seed
   pub of_run : Answer
-  pub found : IsRunThat (tried faults seed s) wanted given true of_run
+  pub found : IsRunThat (tried faults seed s) seed wanted given true of_run
   pub answer' : answer ≡ found_seed seed (scenario_before faults (tried faults seed s)) of_run
   pub read : IsReadBefore faults (tried faults seed s)
 

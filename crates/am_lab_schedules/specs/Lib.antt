@@ -1,3 +1,4 @@
+pub mod SeedRuns
 pub mod Trials
 pub mod Schedules
 pub mod Told

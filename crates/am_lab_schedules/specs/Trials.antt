@@ -1,8 +1,8 @@
 -- The scenario that a seed is tried with.
 use Rattle.std.specs.Prelude.{◌≡◌, ℕ, Option, Some, None, Result, Ok, Err}
 use Rattle.am_lab_scenarios.specs.Faults.Plans.{with_drawn_plan}
+use Rattle.am_lab_schedules.specs.SeedRuns.{IsSeedAnswer}
 use Rattle.am_main_lines.specs.Lines.{Answer, refusal}
-use Rattle.am_main_run.specs.Runs.{IsRunAnswer}
 use Rattle.am_scenario_types.specs.Lawful.{IsLawful, IsOfForm}
 use Rattle.am_scenario_types.specs.Lists.{ScenarioLists}
 use Rattle.am_scenario_types.specs.declared.faults.ScenarioFault.{ScenarioFault}
@@ -19,7 +19,8 @@ pub record StandsFor (faults : Option ℕ) (s other : ScenarioLists) : Type 0 wh
   pub lawful : IsLawful other
   pub of_form : IsOfForm Run other
 
--- THE HEADLINE, for `schedule SEED`: the answer of `run` to the scenario that a text spells, with the plan that is drawn; or the text's first fault
+-- THE HEADLINE, for `schedule SEED`: the answer tells a run by this seed of the scenario that a text spells, with the plan that is drawn, and is
+-- one that `run` may give to it; or the text's first fault
 abbrev pub ScheduleAnswers : (faults : Option ℕ) (seed : ℕ) → Result ScenarioLists ScenarioFault → Answer → Type 0
-ScheduleAnswers faults seed (Ok s) answer = IsRunAnswer (tried faults seed s) answer
+ScheduleAnswers faults seed (Ok s) answer = IsSeedAnswer (tried faults seed s) seed answer
 ScheduleAnswers faults seed (Err fault) answer = answer ≡ refusal fault

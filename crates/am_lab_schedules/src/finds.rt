@@ -60,7 +60,7 @@ fn wanted_run(
     requires of_form { IsOfForm Forms.Run scenario.old }
     ensures exact { OnOk result (scenario.new ≡ tried faults seed scenario.old) }
     ensures stands { OnOk result (StandsFor faults scenario.old scenario.new) }
-    ensures found { IfOk result (λ found. IfSome found (λ output. IsRunThat (tried faults seed scenario.old) wanted given.now true (answer_in output))) }
+    ensures found { IfOk result (λ found. IfSome found (λ output. IsRunThat (tried faults seed scenario.old) seed wanted given.now true (answer_in output))) }
     ensures passed { IfOk result (λ found. IfNone found (IsPassed faults scenario.old wanted given.now seed)) }
 {
     let of_run = trial_output(alloc, scenario, seed, faults)?;
@@ -88,7 +88,7 @@ fn find_seed(
     ensures low { IfOk result (λ found. IfSome found (λ f. from ≤ f.seed)) }
     ensures high { IfOk result (λ found. IfSome found (λ f. f.seed < to)) }
     ensures before { IfOk result (λ found. IfSome found (λ f. NoneIsWanted faults scenario.old wanted given.now from f.seed)) }
-    ensures found { IfOk result (λ found. IfSome found (λ f. IsRunThat (tried faults f.seed scenario.old) wanted given.now true (answer_in f.of_run))) }
+    ensures found { IfOk result (λ found. IfSome found (λ f. IsRunThat (tried faults f.seed scenario.old) f.seed wanted given.now true (answer_in f.of_run))) }
     ensures scenario { IfOk result (λ found. IfSome found (λ f. scenario.new ≡ tried faults f.seed scenario.old)) }
     ensures stands { OnOk result (StandsFor faults scenario.old scenario.new) }
     ensures none { IfOk result (λ found. IfNone found (NoneIsWanted faults scenario.old wanted given.now from to)) }

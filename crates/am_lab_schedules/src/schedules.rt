@@ -1,6 +1,7 @@
 //! The runs of a scenario by many seeds.
 
-ghost use Rattle.am_lab_schedules.specs.Schedules.{IsMade, IsMadeBy, SchedulesAnswers, TellsRuns};
+ghost use Rattle.am_lab_schedules.specs.Schedules.{IsMade, SchedulesAnswers, TellsRuns};
+ghost use Rattle.am_lab_schedules.specs.SeedRuns.{IsSeedRun};
 ghost use Rattle.am_lab_schedules.specs.Told.{AreTold};
 ghost use Rattle.am_lab_schedules.specs.Trials.{StandsFor};
 ghost use Rattle.am_main_lines.specs.Lines.{answer_in};
@@ -13,31 +14,42 @@ ghost use Rattle.std.specs.Prelude.{◌≡◌, ◌+◌, ◌<◌, ◌≤◌, IfEr
 
 use crate::outcomes::{SeedRun, Telling};
 use crate::trials::prepare;
-use am_cluster::{Finished, RunFault};
+use am_cluster::{Finished, RunFault, RunJournal};
 use am_cluster_schedule::run_scheduled;
 use am_main_lines::{Output, fault_output};
 use am_names::NoMemory;
+use am_office_entries::Part;
 use am_scenario::{Form, ReadFault, Scenario, read};
 use std::alloc::Global;
 
+/// What is kept of the run of this seed, which made this journal, and met the full log of a part, if one is given.
+fn kept(
+    alloc: Global,
+    seed: u64,
+    full: Option<Part>,
+    journal: &RunJournal,
+) -> Result<SeedRun, NoMemory>
+    ensures { IfOk result (λ run. run ≡ record { seed = seed; full = full; journal = journal.now }) }
+{
+    let journal = journal.copied(alloc)?;
+    Ok(SeedRun {
+        seed,
+        full,
+        journal,
+    })
+}
+
 /// The run of this seed.
+#[tactic(auto, using(crate::proofs::Ordered::kept_cut))]
 fn run_of(alloc: Global, scenario: &Scenario, seed: u64) -> Result<SeedRun, NoMemory>
     requires lawful { IsLawful scenario.now }
     requires packet { scenario.now.network ≡ Networks.Packet }
     ensures seed { IfOk result (λ run. run.seed ≡ seed) }
-    ensures made { IfOk result (λ run. IsMadeBy scenario.now run.full run.journal) }
+    ensures made { IfOk result (λ run. IsSeedRun scenario.now seed run.full run.journal) }
 {
     match run_scheduled(alloc, scenario, seed) {
-        Ok(Finished { journal }) => Ok(SeedRun {
-            seed,
-            full: None,
-            journal: journal.copied(alloc)?,
-        }),
-        Err(RunFault::LogFull { part, journal }) => Ok(SeedRun {
-            seed,
-            full: Some(part),
-            journal: journal.copied(alloc)?,
-        }),
+        Ok(Finished { journal }) => kept(alloc, seed, None, &journal),
+        Err(RunFault::LogFull { part, journal }) => kept(alloc, seed, Some(part), &journal),
         Err(RunFault::NoMemory) => Err(NoMemory),
     }
 }
@@ -120,9 +132,9 @@ fn scenario_output(
 }
 
 /// What `schedule` prints of a text and the seeds from one up to another, which isn't among them: a line for the run of each seed,
-/// and how many distinct journals there were; or the first fault of the text. Each run is one that `run` may make of the scenario
-/// that the text spells, or, where `faults` says of how many packets in a hundred, 0 to 100, of that scenario with the plan that the seed
-/// draws. The status is 6 where one of them met a full log, which its line tells. `NoMemory` comes only for want of memory.
+/// and how many distinct journals there were; or the first fault of the text. Each run is made by its own seed, as [`seed_output`] makes
+/// it, of the scenario that the text spells, or, where `faults` says of how many packets in a hundred, 0 to 100, of that scenario with the
+/// plan that the seed draws. The status is 6 where one of them met a full log, which its line tells. `NoMemory` comes only for want of memory.
 pub fn schedules_output(
     alloc: Global,
     bytes: &[u8],

@@ -1,6 +1,7 @@
 -- A text is read by its lines alone.
-use Rattle.std.proofs.Common.{◌≡◌, ℕ, List, subst, sym}
+use Rattle.std.proofs.Common.{◌≡◌, ℕ, List, None, subst, sym}
 use Rattle.am_lexer.specs.Text.{lines_of}
+use Rattle.am_lab_schedules.specs.Trials.{ScheduleAnswers}
 use Rattle.am_lab_shrink.specs.declared.reports.Making.{Making}
 use Rattle.am_lab_shrink.specs.declared.reports.Making.TheVariants as Makings
 use Rattle.am_lab_shrink.specs.Reports.{Answers, IsOnly, without_turns}
@@ -19,7 +20,7 @@ same_answers Makings.Steps text other answer same answers =
 same_answers Makings.Drain text other answer same answers =
     subst (λ (lines : List (List ℕ)). RunAnswers (without_turns (read_from Forms.Run 1 nothing lines)) answer) same answers
 same_answers (Makings.Seed seed) text other answer same answers =
-    subst (λ (lines : List (List ℕ)). RunAnswers (read_from Forms.Run 1 nothing lines) answer) same answers
+    subst (λ (lines : List (List ℕ)). ScheduleAnswers None seed (read_from Forms.Run 1 nothing lines) answer) same answers
 
 -- and no other
 pub same_only : (making : Making) (text other : List ℕ) (answer : Answer) → lines_of text ≡ lines_of other → IsOnly making text answer → IsOnly making other answer

@@ -1,6 +1,7 @@
 -- The report of a text, and whether it has a line that begins with some words.
-use Rattle.std.specs.Prelude.{◌≡◌, ◌==◌, ◌&&◌, ℕ, Bool, List, Result, Ok, Err}
+use Rattle.std.specs.Prelude.{◌≡◌, ◌==◌, ◌&&◌, ℕ, Bool, List, None, Result, Ok, Err}
 use Rattle.am_lab_schedules.specs.Beginnings.{has_line_with}
+use Rattle.am_lab_schedules.specs.Trials.{ScheduleAnswers}
 use Rattle.am_lab_shrink.specs.declared.reports.Making.{Making}
 use Rattle.am_lab_shrink.specs.declared.reports.Making.TheVariants as Makings
 use Rattle.am_main_lines.specs.Lines.{Answer}
@@ -16,13 +17,13 @@ abbrev pub without_turns : Result ScenarioLists ScenarioFault → Result Scenari
 without_turns (Ok s) = Ok (record s { turns = 0 })
 without_turns (Err fault) = Err fault
 
--- An answer to a text: that of `step`; that of `run` without turns; one that `run` may give.
+-- An answer to a text: that of `step`; that of `run` without turns; one of `schedule` to this seed.
 abbrev pub Answers : Making → List ℕ → Answer → Type 0
 Answers Makings.Steps text answer = StepAnswers (grammar Forms.Step text) answer
 Answers Makings.Drain text answer = RunAnswers (without_turns (grammar Forms.Run text)) answer
-Answers (Makings.Seed seed) text answer = RunAnswers (grammar Forms.Run text) answer
+Answers (Makings.Seed seed) text answer = ScheduleAnswers None seed (grammar Forms.Run text) answer
 
--- It is the only one; but by a seed it is one of those that `run` may give.
+-- It is the only one; but of a seed it is one that tells a run by this seed.
 abbrev pub IsOnly : Making → List ℕ → Answer → Type 0
 IsOnly (Makings.Seed seed) text answer = Unit {0}
 IsOnly making text answer = (other : Answer) → Answers making text other → other ≡ answer

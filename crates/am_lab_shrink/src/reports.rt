@@ -64,7 +64,7 @@ fn drain_output(alloc: Global, text: &[u8]) -> Result<Output, AllocError>
     }
 }
 
-/// The answer to a text: its report, or what is wrong with it. There is no other; but by a seed it is one of those that `run` may give.
+/// The answer to a text: its report, or what is wrong with it. There is no other; but of a seed it is one that tells a run by this seed.
 pub(crate) fn answer_of(alloc: Global, making: Making, text: &[u8]) -> Result<Output, AllocError>
     ensures answers { IfOk result (λ output. Answers making text.now (answer_in output)) }
     ensures only { IfOk result (λ output. IsOnly making text.now (answer_in output)) }

@@ -111,9 +111,9 @@ fn few_output(
 }
 
 /// What `shrink` prints of a text and some words, with status 0: some lines of the text, in their order, whose report still has a line
-/// that begins with these words (`am_lab_schedules::beginnings`), and of which none can be left out. Where the text's own report has no
-/// such line, status 12 and a line that says so; where it has no report, the answer that `step` or `run` gives; where it has more than
-/// 4,096 lines, status 11. `NoMemory` comes only for want of memory, in any of the runs that are made.
+/// that begins with these words (`am_lab_schedules::beginnings`), and of which none can be left out. By a seed each report that is looked
+/// at tells a run by this seed. Where the text's own report has no such line, status 12 and a line that says so; where it has no report,
+/// the answer that `step`, `run` or `schedule` gives; where it has more than 4,096 lines, status 11. `NoMemory` comes only for want of memory, in any of the runs that are made.
 pub fn shrink_output(
     alloc: Global,
     making: Making,

@@ -16,6 +16,9 @@ use Rattle.am_model_drain.specs.Cut.{IsDrainedWithRoom}
 use Rattle.am_model_drain.specs.Drain.{IsDrained}
 use Rattle.am_model_drain.specs.Follows.{FollowsScripts}
 use Rattle.am_cluster.specs.Runs.{IsAloneCutOff, IsRunCutOff, IsRunDone, ObeysRunLaws}
+use Rattle.am_cluster.specs.declared.Finished.{Finished}
+use Rattle.am_cluster.specs.declared.RunFault.{RunFault}
+use Rattle.am_cluster.specs.declared.RunFault.TheVariants as Stops
 use Rattle.am_main_lines.specs.Lines.{Answer, full_line, ids_of, refusal}
 
 -- without threads a run is what the drain makes of the empty journal, which makes no other
@@ -50,6 +53,12 @@ pub record PrintsCutRun (s : ScenarioLists) (part : Part) (text : List ℕ) : Ty
 -- the answer of `run` to a scenario
 abbrev pub IsRunAnswer : ScenarioLists → Answer → Type 0
 IsRunAnswer s answer = ((answer.status ≡ 0) × PrintsRun s answer.text) ⊎ ((answer.status ≡ 6) × ((part : Part) × PrintsCutRun s part answer.text))
+
+-- the answer tells how a run ended: the report of its journal; or the line of the full log that it met, and the report of what it made before
+abbrev pub TellsEnd : ScenarioLists → Result Finished RunFault → Answer → Type 0
+TellsEnd s (Ok finished) answer = answer ≡ record { status = 0; text = report (ids_of s.ends) finished.journal }
+TellsEnd s (Err (Stops.LogFull part journal)) answer = answer ≡ record { status = 6; text = full_line part ++ report (ids_of s.ends) journal }
+TellsEnd s (Err Stops.NoMemory) answer = ⊥
 
 -- the answer of `run` to what a text spells, or to its first fault
 abbrev pub RunAnswers : Result ScenarioLists ScenarioFault → Answer → Type 0

@@ -4,7 +4,7 @@ ghost use Rattle.std.specs.Prelude.{◌≡◌, ◌++◌, IfErr, IfOk};
 ghost use Rattle.am_cluster.specs.Runs.{IsRunDone, IsRunStopped, ObeysRunLaws};
 ghost use Rattle.am_laws_runs.specs.Turns.Runs.{IsWholeRun};
 ghost use Rattle.am_main_lines.specs.Lines.{answer_in, full_line, ids_of};
-ghost use Rattle.am_main_run.specs.Runs.{IsRunAnswer, RunAnswers};
+ghost use Rattle.am_main_run.specs.Runs.{IsRunAnswer, RunAnswers, TellsEnd};
 ghost use Rattle.am_office_report.specs.Report.{report};
 ghost use Rattle.am_scenario.specs.Grammar.{grammar};
 ghost use Rattle.am_scenario_types.specs.Lawful.{IsLawful};
@@ -59,7 +59,8 @@ pub fn ended_output(
     requires whole { IfOk ended (λ finished. IsWholeRun scenario.now finished.journal) }
     requires obeys { IfOk ended (λ finished. ObeysRunLaws scenario.now finished.journal) }
     requires stopped { IfErr ended (IsRunStopped scenario.now) }
-    ensures { IfOk result (λ output. IsRunAnswer scenario.now (answer_in output)) }
+    ensures answers { IfOk result (λ output. IsRunAnswer scenario.now (answer_in output)) }
+    ensures told { IfOk result (λ output. TellsEnd scenario.now ended (answer_in output)) }
 {
     match ended {
         Ok(finished) => {

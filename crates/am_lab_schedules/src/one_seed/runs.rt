@@ -1,13 +1,13 @@
 //! The run of a scenario by a seed.
 
+ghost use Rattle.am_lab_schedules.specs.SeedRuns.{IsSeedAnswer};
 ghost use Rattle.am_lab_schedules.specs.Trials.{ScheduleAnswers, StandsFor, tried};
 ghost use Rattle.am_main_lines.specs.Lines.{answer_in};
-ghost use Rattle.am_main_run.specs.Runs.{IsRunAnswer, RunAnswers};
 ghost use Rattle.am_scenario.specs.Grammar.{grammar};
 ghost use Rattle.am_scenario_types.specs.Lawful.{IsLawful, IsOfForm};
 ghost use Rattle.am_scenario_types.specs.declared.parts.Form.TheVariants as Forms;
 ghost use Rattle.am_scenario_types.specs.declared.parts.Network.TheVariants as Networks;
-ghost use Rattle.std.specs.Prelude.{◌≡◌, ◌≤◌, IfOk, IfSome, OnOk};
+ghost use Rattle.std.specs.Prelude.{◌≡◌, ◌≤◌, IfOk, IfSome, None, OnOk};
 
 use crate::trials::prepare;
 use am_cluster_schedule::run_scheduled;
@@ -20,17 +20,17 @@ use std::alloc::{AllocError, Global};
 fn scenario_output(alloc: Global, scenario: &Scenario, seed: u64) -> Result<Output, AllocError>
     requires lawful { IsLawful scenario.now }
     requires packet { scenario.now.network ≡ Networks.Packet }
-    ensures { IfOk result (λ output. IsRunAnswer scenario.now (answer_in output)) }
+    ensures { IfOk result (λ output. IsSeedAnswer scenario.now seed (answer_in output)) }
 {
     let ended = run_scheduled(alloc, scenario, seed);
     ended_output(alloc, scenario, ended)
 }
 
-/// What `schedule` prints of a text and a seed: an answer that `run` may give to that text. It is the report of a run of the scenario
-/// that the text spells, in the order of the seed; the full log that the run met, and the report of what was made before; or the first
-/// fault of the text. `AllocError` comes only for want of memory.
+/// What `schedule` prints of a text and a seed, an answer that `run` may give to that text too: the report of a run of the scenario that the
+/// text spells, whose workers took their turns one after the other in the order of the seed (`am_cluster_schedule`); the full log that this
+/// run met, and the report of what it made before; or the first fault of the text. `AllocError` comes only for want of memory.
 pub fn schedule_output(alloc: Global, bytes: &[u8], seed: u64) -> Result<Output, AllocError>
-    ensures { IfOk result (λ output. RunAnswers (grammar Forms.Run bytes.now) (answer_in output)) }
+    ensures { IfOk result (λ output. ScheduleAnswers None seed (grammar Forms.Run bytes.now) (answer_in output)) }
 {
     match read(alloc, Form::Run, bytes) {
         Ok(scenario) => scenario_output(alloc, &scenario, seed),
@@ -51,7 +51,7 @@ pub(crate) fn trial_output(
     requires of_form { IsOfForm Forms.Run scenario.old }
     ensures exact { OnOk result (scenario.new ≡ tried faults seed scenario.old) }
     ensures stands { OnOk result (StandsFor faults scenario.old scenario.new) }
-    ensures run { IfOk result (λ output. IsRunAnswer (tried faults seed scenario.old) (answer_in output)) }
+    ensures run { IfOk result (λ output. IsSeedAnswer (tried faults seed scenario.old) seed (answer_in output)) }
 {
     prepare(alloc, scenario, seed, faults)?;
     scenario_output(alloc, scenario, seed)
@@ -67,7 +67,7 @@ fn tried_output(
     requires percent { IfSome faults (λ percent. percent ≤ 100) }
     requires lawful { IsLawful scenario }
     requires of_form { IsOfForm Forms.Run scenario }
-    ensures { IfOk result (λ output. IsRunAnswer (tried faults seed scenario) (answer_in output)) }
+    ensures { IfOk result (λ output. IsSeedAnswer (tried faults seed scenario) seed (answer_in output)) }
 {
     let mut drawn = scenario;
     trial_output(alloc, &mut drawn, seed, faults)

@@ -18,7 +18,7 @@ returns-in-Some c =
     let high = where_some (λ (f : Found). f.seed < c.args.to) option found is says.high in
     let before = where_some (λ (f : Found). NoneIsWanted c.args.faults s c.args.wanted c.args.given.now c.args.from f.seed) option found is says.before in
     let run =
-    where_some (λ (f : Found). IsRunThat (tried c.args.faults f.seed s) c.args.wanted c.args.given.now true (answer_in f.of_run)) option found is says.found in
+    where_some (λ (f : Found). IsRunThat (tried c.args.faults f.seed s) f.seed c.args.wanted c.args.given.now true (answer_in f.of_run)) option found is says.found in
     let scenario = where_some (λ (f : Found). other ≡ tried c.args.faults f.seed s) option found is says.scenario in
     is_found c.args.faults s other c.args.wanted c.args.given.now c.args.from c.args.to found.seed (answer_in found.of_run) c.found_with_scenario.result low high
     before run scenario says.stands c.found_with_scenario.ensures
