@@ -48,8 +48,8 @@ def wide_scenario():
 
 
 def long_scenario(count):
-    """One endpoint, which is polled so often that the report has so many entries."""
-    return "am2 1\nnetwork packet\nnodes 1\nendpoint 0 0 1\nthread 0 0\n" + "t0 poll 0\n" * count
+    """One endpoint, which gets another tag and is polled so often that the report has so many entries."""
+    return "am2 1\nnetwork packet\nnodes 1\nendpoint 0 0 1\nthread 0 0\nt0 tag 0 5\n" + "t0 poll 0\n" * (count - 1)
 
 
 def answered(*words, text):
