@@ -1,10 +1,12 @@
 #!/usr/bin/env python3
 """The page of a report in a browser: page.py LAB AM2 [--shots FOLDER].
 
-LAB prints pages of four reports: a small one, that of the made run 0, one with 256 endpoints, and a small one whose scenario tries to break out of the page.
-Each is opened, clicked and typed at, and what it shows is compared with a second reading of the report (`json_lines.py`). With --shots it leaves pictures of
-what it saw. Where there is no chromium it says that nothing was tried.
+LAB prints pages of six reports: a small one, that of the made run 0, one with 256 endpoints, one whose scenario tries to break out of the page, and two of
+2,000 and of 2,001 entries. They are opened, clicked and typed at, and what they show is compared with a second reading of the report (`json_lines.py`) and of
+the machine's states (`state.py`). With --shots it leaves pictures of what it saw. The changes that the pages of the examples' reports carry are compared with
+the second reading without a browser; where there is no chromium, nothing else is tried.
 """
+import html
 import json
 import pathlib
 import re
@@ -15,7 +17,8 @@ import tempfile
 import browser
 from chart import lines_of
 from json_lines import objects
-from lab import CAUSES, FATES, place_of
+from lab import CAUSES, FATES, form_of, place_of
+from state import changes, examples
 
 TOP = pathlib.Path(__file__).resolve().parent.parent
 LIT = "[...document.querySelectorAll('#picture > svg > g')].flatMap((it, row) => it.classList.contains('dim') ? [] : [row])"
@@ -30,6 +33,7 @@ CHOSEN = "document.getElementById(document.querySelector('#lines').getAttribute(
 CONTROLS = "search by-message by-endpoint by-node by-fate by-kind previous-mark next-mark fold-lanes fold-lines height lines side".split()
 ROLES = "button checkbox combobox searchbox textbox slider listbox option image link".split()
 WAY = r"\d+\.\d+ packet \d+, \d+ to \d+, line \d+ to \d+"
+CHANGE = "document.querySelector('#side .changes')?.textContent ?? ''"
 BREAKING = "# </script><script>document.title='out'</script><img src=x onerror=alert(1)>\n# <!-- ' \" ]]> <svg onload=alert(2)>\n"
 
 
@@ -41,6 +45,11 @@ def wide_scenario():
         source, there = 17 * node, (node + 5) % 16 + 112
         lines += [f"t{node} map {source} 0 {there} {1000 + there} 3", f"t{node} request {source} 0 1 0 0 0 0", f"t{node} request {source} 0 1 1 0 0 0"]
     return "\n".join(lines) + "\n"
+
+
+def long_scenario(count):
+    """One endpoint, which gets another tag and is polled so often that the report has so many entries."""
+    return "am2 1\nnetwork packet\nnodes 1\nendpoint 0 0 1\nthread 0 0\nt0 tag 0 5\n" + "t0 poll 0\n" * (count - 1)
 
 
 def answered(*words, text):
@@ -55,7 +64,7 @@ class Trial:
 
     def __init__(self, window, lab, am2, folder, shots):
         self.window, self.lab, self.am2, self.folder, self.shots = window, lab, am2, pathlib.Path(folder), shots
-        self.name, self.entries, self.report, self.count, self.bad = "", [], "", 0, 0
+        self.name, self.entries, self.scenario, self.report, self.count, self.bad = "", [], "", "", 0, 0
 
     def page(self, name, scenario, report=None, address="", **size):
         """Opens the page of a scenario's report."""
@@ -63,7 +72,7 @@ class Trial:
         text = answered(self.lab, "page", "run", text=scenario + report)
         file = self.folder / f"{name}.html"
         file.write_text(text)
-        self.name, self.entries, self.report = name, list(objects(report)), report
+        self.name, self.entries, self.scenario, self.report = name, list(objects(report)), scenario, report
         self.again(address, **size)
         return text
 
@@ -159,6 +168,32 @@ def endings(trial):
     for serial in ends.values():
         trial.again(f"#{serial}")
         trial.says(f"why {serial} ended so", f"document.querySelector('#side p').textContent.endsWith(': {trial.because(serial)}')")
+
+
+def changed(trial, serial, most=60):
+    """What the entry of a line changed, as `state` tells it of the line in front of it and of it."""
+    window, told = trial.window, changes(trial.scenario, trial.report)
+    trial.again()
+    for line in [*told][:most]:
+        window.value(f"location.hash = '#/{line}'")
+        window.wait(f"document.querySelector('#side h2').textContent === 'Line {line}'")
+        trial.says(f"what line {line} changed", CHANGE, told[line])
+        trial.says("it is said under a heading", "document.querySelector('#side h3').textContent", "What it changed")
+        if line > 3:
+            text = answered(trial.lab, "state", "run", str(line - 1), str(line), text=trial.scenario + trial.report)
+            trial.is_so(f"as state tells it of line {line}", text, told[line])
+    trial.again(f"#{serial}/{trial.entries[trial.of(serial)[0]]['line']}")
+    trial.says("it stands below why", "document.querySelector('#side ol').nextElementSibling.textContent", "What it changed")
+
+
+def carried(trial):
+    """A report of 2,000 entries carries what they changed, and one of more says that it doesn't."""
+    for count in (2000, 2001):
+        text = trial.page(f"entries-{count}", long_scenario(count), address="#/3")
+        trial.is_so("so many entries", len(trial.entries), count)
+        trial.is_so("the changes are carried", '<template id="changes">' in text, count == 2000)
+        trial.says("what the first changed", CHANGE, changes(trial.scenario, trial.report)[3] if count == 2000 else "")
+        trial.says("that none are carried", "document.querySelector('#side').textContent.includes('carries no changes')", count != 2000)
 
 
 def failures(trial):
@@ -306,6 +341,7 @@ def whole(trial, serial, endpoint, narrower):
     lines_and_heads(trial)
     messages(trial, serial)
     endings(trial)
+    changed(trial, serial)
     failures(trial)
     filters(trial, endpoint)
     moves(trial)
@@ -322,6 +358,11 @@ def broken_out(trial, text):
     trial.says("no picture from elsewhere", "document.images.length + document.querySelectorAll('iframe, object, embed, link').length", 0)
     journal = text.split('id="journal">', 1)[1].split("</script>", 1)[0]
     trial.is_so("no tag in the journal", "<" in journal, False)
+    told = text.split('<template id="changes">', 1)[1].split("</template>", 1)[0]
+    trial.is_so("no tag in the changes", "<" in told, False)
+    trial.says("no element in the changes", "document.querySelector('#changes').content.children.length", 0)
+    lines = text_of(changes(trial.scenario, trial.report))
+    trial.says("the changes are those of the second reading", "document.querySelector('#changes').content.textContent", lines)
     trial.is_so("the journal is JSON", [json.loads(line) for line in journal.split("\n") if line], trial.entries)
 
 
@@ -334,14 +375,33 @@ def tried(trial):
     whole(trial, "0.1", "17", True)
     trial.page("made", answered(trial.lab, "scenario", "make", "0", text=""))
     whole(trial, "0.1", "1", False)
+    carried(trial)
     trial.is_so("faults of a script, or something asked of the network", trial.window.faults, [])
 
 
+def text_of(told):
+    """The text of what each entry changed, under its line."""
+    return "".join(f"line {line}\n{lines}" for line, lines in told.items())
+
+
+def carried_wrongly(lab):
+    """The examples in whose pages other changes stand than a second reading finds. It takes no browser."""
+    wrong = 0
+    for name, scenario, report in examples():
+        page = answered(lab, "page", form_of(scenario), text=scenario + report)
+        found = [html.unescape(it) for it in re.findall(r'<template id="changes">(.*?)</template>', page, re.S)]
+        if found != [text_of(changes(scenario, report))]:
+            wrong += 1
+            print(f"{name}: its page tells other changes than the second reading")
+    return wrong
+
+
 def main(lab, am2, shots):
+    wrong = carried_wrongly(lab)
     program = browser.found()
     if program is None:
-        print("page: not tried, there is no chromium")
-        return 0
+        print(f"page: the changes of the examples tried, {wrong} wrong; nothing else, there is no chromium")
+        return 1 if wrong else 0
     window = browser.Browser(program)
     try:
         with tempfile.TemporaryDirectory() as folder:
@@ -349,8 +409,8 @@ def main(lab, am2, shots):
             tried(trial)
     finally:
         window.close()
-    print(f"page: {trial.count} points tried, {trial.bad} fail")
-    return 1 if trial.bad else 0
+    print(f"page: {trial.count} points tried, {trial.bad} fail; the changes of the examples tried, {wrong} wrong")
+    return 1 if trial.bad or wrong else 0
 
 
 if __name__ == "__main__":

@@ -200,6 +200,12 @@ def difference(first, second):
     return "".join(gone + [f"+ {line}\n" for line in other if line not in one])
 
 
+def changes(scenario, report):
+    """What each entry of a report changes, under its line."""
+    texts = states_of(scenario, report)
+    return {line: difference(before, behind) for line, (before, behind) in enumerate(zip(texts, texts[1:]), 3)}
+
+
 def asked_of(texts, draw, most):
     """What to ask for of a report with these states, and the right answers."""
     count = len(texts) - 1

@@ -20,7 +20,7 @@ use Rattle.am_lab_drawings.specs.declared.view.parts.LineRange.{LineRange}
 use Rattle.am_lab_drawings.specs.declared.view.parts.PictureFault.{PictureFault}
 use Rattle.am_lab_drawings.specs.declared.view.parts.PictureFault.TheVariants as Pictures
 use Rattle.am_lab_page.specs.Json.Answers.{JsonAnswers, WritesJson}
-use Rattle.am_lab_page.specs.Page.Pages.{PageAnswers, WritesPage, page_of}
+use Rattle.am_lab_page.specs.Page.Pages.{IsPage, PageAnswers, WritesPage}
 use Rattle.am_lab_picture.specs.Data.{PictureLists}
 use Rattle.am_lab_picture.specs.declared.data.Lines.{Lines}
 use Rattle.am_lab_scenarios.specs.Derived.Answers.{ExpandedAnswers, FaultsAnswers, RoundAnswers, RoundOrNone, with_number}
@@ -230,11 +230,11 @@ told_own form bytes told answer tells is =
     (longer (0 ∷ 3 ∷ 6 ∷ 10 ∷ []) (11 ∷ 12 ∷ []) told.status (json_own form bytes told tells))
 
 page_by : (form : Form) (bytes : List ℕ) (told drawn answer : Answer) → ChartAnswers form bytes None drawn →
-    ((drawn.status ≢ 0) × (answer ≡ drawn)) ⊎ ((drawn.status ≡ 0) × (answer ≡ record { status = 0; text = page_of told.text drawn.text })) →
+    ((drawn.status ≢ 0) × (answer ≡ drawn)) ⊎ ((drawn.status ≡ 0) × IsPage form bytes told.text drawn.text answer) →
     IsOneOf (0 ∷ 3 ∷ 6 ∷ 10 ∷ 11 ∷ 12 ∷ []) answer.status
 page_by form bytes told drawn answer draws (inl other) =
     as_one (0 ∷ 3 ∷ 6 ∷ 10 ∷ 11 ∷ 12 ∷ []) answer.status drawn.status (same answer drawn other.1) (chart_own form bytes None drawn draws)
-page_by form bytes told drawn answer draws (inr made) = inl (ap (λ (a : Answer). a.status) made.1)
+page_by form bytes told drawn answer draws (inr made) = inl (ap (λ (a : Answer). a.status) made.1.answer')
 
 page_told : (form : Form) (bytes : List ℕ) (told answer : Answer) → JsonAnswers form bytes told →
     ((told.status ≢ 0) × (answer ≡ told)) ⊎ WritesPage form bytes told answer → IsOneOf (0 ∷ 3 ∷ 6 ∷ 10 ∷ 11 ∷ 12 ∷ []) answer.status

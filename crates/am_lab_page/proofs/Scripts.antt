@@ -3,12 +3,14 @@ use Rattle.std.proofs.Common.{◌≡◌, ℕ, ◌+◌, Bool, true, false, ◌&&�
 use Rattle.std.specs.List.{list_all}
 use Rattle.am_lab_picture.specs.Rows.{row}
 use Rattle.am_lab_xml.proofs.Bools.{all_of_both, all_weaker, apart, first, not_so, second}
+use Rattle.am_lab_xml.proofs.Found.{escaped_begins_none}
+use Rattle.am_lab_xml.specs.Escaped.{escaped}
 use Rattle.am_lab_xml.specs.Reading.{begins}
 use Rattle.am_lemmas.specs.Numbered.{numbered}
 use Rattle.am_office_entries.specs.declared.Entry.{Entry}
 use Rattle.am_lab_page.specs.Json.Laws.{is_of_object}
 use Rattle.am_lab_page.specs.Json.Objects.{json_of, object_line, object_of}
-use Rattle.am_lab_page.specs.Page.Laws.{EndsNoScript, JournalsEndNoScript, has}
+use Rattle.am_lab_page.specs.Page.Laws.{ChangesBeginNoTag, EndsNoScript, JournalsEndNoScript, has}
 use Rattle.am_lab_page.proofs.Lines.{objects_are_inert}
 
 is_other : ℕ → Bool
@@ -61,3 +63,12 @@ journals_end_no_script journal =
       comments_none = absent (codes "!--") (json_of journal) none;
       begins_none = absent [] (json_of journal) none;
     }
+
+-- ---- the changes
+
+of_escaped : (text : List ℕ) → HasNone (escaped text)
+unfolding HasNone is_other
+of_escaped text = escaped_begins_none text
+
+pub changes_begin_no_tag : ChangesBeginNoTag
+changes_begin_no_tag text = absent [] (escaped text) (of_escaped text)

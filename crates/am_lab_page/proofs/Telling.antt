@@ -2,6 +2,7 @@
 use Rattle.std.proofs.Common.{◌≡◌, ℕ, ◌+◌, ◌-◌, ◌<◌, ◌≤◌, ◌^◌, List, [], ◌∷◌, ◌++◌, take, drop, length, map, Option, Some, Result, Ok, Err, refl, sym, ap, ◌∙◌, subst, inr, arith}
 use Rattle.std.proofs.lemmas.List.{take_all}
 use Rattle.std.specs.Global.{Vec}
+use Rattle.std.specs.Option.{option_map}
 use Rattle.std.specs.Prelude.{IfOk}
 use Rattle.am_check.specs.Cut.{place_of}
 use Rattle.am_check.specs.Exact.{IsChecked}
@@ -21,6 +22,7 @@ use Rattle.am_scenario_types.specs.Lists.{ScenarioLists}
 use Rattle.am_scenario_types.specs.declared.parts.Form.{Form}
 use Rattle.am_lab_page.specs.Json.Answers.{JsonAnswers}
 use Rattle.am_lab_page.specs.Json.Objects.{json_of, object_line}
+use Rattle.am_lab_page.specs.Page.Pages.{changes_told}
 
 -- ---- all rows
 
@@ -73,6 +75,19 @@ pub told_of_text : {E : Type 0} (form : Form) (text : List ℕ) (place : ℕ) (b
     (k : IsChecked form text) → IfOk result (λ (out : Vec ℕ). out.items ≡ json_of k.report.journal)
 unfolding report_is
 told_of_text form text place bytes s result at behind spelled told k = told form (report_is form text place bytes s k at behind spelled)
+
+-- so of what each entry changes
+pub changes_of_text : {E : Type 0} (form : Form) (text : List ℕ) (place : ℕ) (bytes : List ℕ) (s : ScenarioLists) (result : Result (Option (Vec ℕ)) E) →
+    place_of text ≡ Some place → bytes ≡ drop place text → grammar form (take place text) ≡ Ok s →
+    ((f : Form) (r : IsReportOf f s bytes) → IfOk result (λ (told : Option (Vec ℕ)). option_map (λ (v : Vec ℕ). v.items) told ≡ changes_told s r.journal)) →
+    (k : IsChecked form text) →
+    IfOk result (λ (told : Option (Vec ℕ)). option_map (λ (v : Vec ℕ). v.items) told ≡ changes_told k.scenario k.report.journal)
+unfolding report_is
+changes_of_text form text place bytes s result at behind spelled told k =
+    subst
+    (λ (z : ScenarioLists).
+    IfOk result (λ (told : Option (Vec ℕ)). option_map (λ (v : Vec ℕ). v.items) told ≡ changes_told z k.report.journal))
+    (sym (scenario_is form text place s k at spelled)) (told form (report_is form text place bytes s k at behind spelled))
 
 -- ---- the answer
 

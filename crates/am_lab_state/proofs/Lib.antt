@@ -1,7 +1,10 @@
 pub mod Answering
 pub mod Asking
+pub mod Changing
+pub mod Differing
 pub mod Following
 pub mod Fronting
+pub mod Growing
 pub mod Holding
 pub mod Reading
 pub mod Taking

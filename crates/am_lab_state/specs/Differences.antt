@@ -1,5 +1,5 @@
 -- How two texts differ, line by line.
-use Rattle.std.specs.Prelude.{ℕ, Bool, true, false, ◌&&◌, ◌==◌, List, [], ◌∷◌, ◌++◌, codes}
+use Rattle.std.specs.Prelude.{◌≡◌, ℕ, Bool, true, false, ◌&&◌, ◌==◌, List, [], ◌∷◌, ◌++◌, codes}
 use Rattle.std.specs.List.{flat_map, list_any}
 use Rattle.am_lexer.specs.Text.{lines_of}
 
@@ -13,6 +13,10 @@ same_line (x ∷ xs) (y ∷ ys) = (x == y) && same_line xs ys
 -- whether a text has a line
 abbrev pub has_line : List ℕ → List ℕ → Bool
 has_line text line = list_any (same_line line) (lines_of text)
+
+-- a text has each line of a part of it
+abbrev pub HasLinesOf : List ℕ → List ℕ → Type 0
+HasLinesOf text part = (line : List ℕ) → has_line part line ≡ true → has_line text line ≡ true
 
 abbrev pub line_unless : Bool → List ℕ → List ℕ → List ℕ
 line_unless true mark line = []

@@ -8,3 +8,5 @@ pub mod Texts
 pub mod Fronts
 pub mod Differences
 pub mod Answers
+pub mod Changes
+pub mod Laws

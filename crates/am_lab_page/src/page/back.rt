@@ -1,14 +1,9 @@
-//! The page behind the picture. Made of `page/` by `check/page_texts.py --write`.
+//! The page behind the changes. Made of `page/` by `check/page_texts.py --write`.
 
-/// The side, and the script.
-pub const BACK: &str = r#"</div>
-</div>
-<nav id="marks" aria-label="Where messages were returned, unknown or given up" hidden></nav>
-<aside id="side" aria-live="polite" aria-label="What is selected" tabindex="0" hidden></aside>
-</main>
-<script>
-// The page of a report. It reads the journal, an object a line, and the picture as it stands in the page:
-// `docs/JSON.md` and `docs/PICTURES.md` say what is in them.
+/// The script.
+pub const BACK: &str = r#"<script>
+// The page of a report. It reads the journal, an object a line, the picture as it stands in the page, and what each entry changed:
+// `docs/JSON.md`, `docs/PICTURES.md` and `docs/STATE.md` say what is in them.
 'use strict';
 (() => {
 const TOP = 190, HEADS = 134, HEAD = TOP - HEADS, EDGE = 12, LABEL = 72, LANE = 33, INTERFACE = 22, FOLDED = 1, TEXT = 13;
@@ -60,6 +55,13 @@ entries.forEach((it, row) => {
 });
 const isFailed = (it) => /^(returned|unknown) /.test(it.outcome ?? '') || (it.event.startsWith('giveup ') && it.outcome === 'ok');
 const marks = entries.flatMap((it, row) => isFailed(it) ? [row] : []);
+
+// what each entry changed, if the page carries it: behind `line N` the lines that are gone and those that are new
+const carried = byId('changes');
+const changes = new Map((carried?.content.textContent ?? '').split(/^line /m).slice(1).map((block) => {
+  const end = block.indexOf('\n');
+  return [Number(block.slice(0, end)), block.slice(end + 1)];
+}));
 
 // ---- the picture: what stands in it, and where it was drawn
 
@@ -408,6 +410,12 @@ const aboutLine = (row) => {
   const text = made('p', {}, made('code', {}, ...linked(texts[row])));
   return [made('h2', {}, `Line ${it.line}`), text, made('p', {}, `by ${actorName(it.actor)}, stamp ${it.stamp}`)];
 };
+const aboutChange = (row) => {
+  const heading = made('h3', {}, 'What it changed');
+  if (carried === null) return [heading, made('p', {}, 'This page carries no changes, since the report has more than 2,000 entries.')];
+  const change = changes.get(entries[row].line) ?? '';
+  return [heading, change ? made('pre', { className: 'changes' }, change) : made('p', {}, 'Nothing.')];
+};
 const countsOf = () => FATES.map((fate) => [fate, [...fateOf.values()].filter((it) => it === fate).length]).filter(([, count]) => count);
 const aboutAll = () => {
   const items = countsOf().map(([fate, count]) => {
@@ -418,7 +426,8 @@ const aboutAll = () => {
   return [made('h2', {}, `${fateOf.size} messages in ${rows.length} lines`), ...items, made('p', {}, 'Choose a line, an arrow or a serial.')];
 };
 const showSide = () => {
-  const told = [...state.row === null ? [] : aboutLine(state.row), ...state.message === null ? [] : aboutMessage(state.message)];
+  const { message, row } = state;
+  const told = [row === null ? [] : aboutLine(row), message === null ? [] : aboutMessage(message), row === null ? [] : aboutChange(row)].flat();
   byId('side').replaceChildren(...told.length ? told : aboutAll());
 };
 

@@ -69,7 +69,9 @@ a:hover { text-decoration: underline; }
 #marks .window { position: absolute; left: 0; right: 0; background: #8883; pointer-events: none; min-height: 3px; }
 #side { flex: 0 0 21rem; overflow: auto; border-left: 1px solid var(--edge); padding: .6rem .8rem; }
 #side h2 { font-size: 1.05rem; margin: 0 0 .3rem; }
+#side h3 { font-size: 1rem; margin: .8rem 0 .3rem; }
 #side p { margin: .2rem 0; }
+#side .changes { margin: .4rem 0; font: 12px/1.45 ui-monospace, monospace; white-space: pre-wrap; overflow-wrap: anywhere; }
 #side ol { list-style: none; margin: .4rem 0; padding: 0; font: 12px/1.45 ui-monospace, monospace; overflow-wrap: anywhere; }
 #side li { padding: .1rem .3rem; border-left: 3px solid transparent; }
 #side li[aria-current] { background: var(--chosen); }
