@@ -1,5 +1,5 @@
 -- The answer of `json`.
-use Rattle.std.proofs.Common.{◌≡◌, ◌≢◌, ℕ, List, inl, refl}
+use Rattle.std.proofs.Common.{◌≢◌, ℕ, List, inl, refl}
 use Rattle.am_main_step.specs.Checks.{CheckAnswers}
 use Rattle.am_main_lines.specs.Lines.{Answer}
 use Rattle.am_scenario_types.specs.declared.parts.Form.{Form}

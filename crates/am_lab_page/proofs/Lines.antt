@@ -1,5 +1,5 @@
 -- The lines of a journal's objects.
-use Rattle.std.proofs.Common.{◌≡◌, ℕ, suc, ◌+◌, Bool, true, false, ◌||◌, eqb, not, List, [], ◌∷◌, ◌++◌, codes, length, map, Option, Some, None, refl, ap, ◌∙◌, append_assoc}
+use Rattle.std.proofs.Common.{◌≡◌, ℕ, suc, ◌+◌, Bool, true, false, ◌||◌, eqb, not, List, [], ◌∷◌, ◌++◌, codes, length, Option, Some, None, refl, ap, ◌∙◌, append_assoc}
 use Rattle.std.specs.Fmt.{decimal}
 use Rattle.std.specs.List.{list_all}
 use Rattle.std.proofs.lemmas.Bool.{and_parts, not-true}
@@ -19,7 +19,7 @@ use Rattle.am_office_entries.specs.declared.endings.Fate.{Fate}
 use Rattle.am_office_entries.specs.declared.endings.Fate.TheVariants as Fates
 use Rattle.am_office_text.specs.EntryLines.Lines.{outcome, what, who}
 use Rattle.am_office_text.specs.Words.{Word, serial}
-use Rattle.am_lab_page.specs.Json.Objects.{fate_of, fate_value, link_part, message_part, object_line, object_of, packet_value, place_part, quoted, serial_value, spread, text_part, text_value, way_value}
+use Rattle.am_lab_page.specs.Json.Objects.{fate_of, fate_value, link_part, message_part, object_of, packet_value, place_part, quoted, serial_value, spread, text_part, text_value, way_value}
 use Rattle.am_lab_page.specs.Json.Laws.{EachEntryHasItsLine, ObjectsAreInert, are_plain, is_of_object, is_plain}
 use Rattle.am_lab_page.proofs.Plain.{nothing_is_escaped, number_is_plain, serial_is_plain}
 

@@ -31,11 +31,10 @@ use Rattle.am_office_entries.specs.declared.Received.{Received}
 use Rattle.am_office_entries.specs.declared.Received.TheVariants as Got
 use Rattle.am_office_entries.specs.declared.Outcome.{Outcome}
 use Rattle.am_office_entries.specs.declared.Outcome.TheVariants as Out
-use Rattle.am_office_entries.specs.declared.Entry.{Entry}
 use Rattle.am_office_text.specs.Words.{Word, spaced, serial, tag, cause, verdict, why}
 use Rattle.am_office_text.specs.EntryLines.Lines.{actor, interface, driver, who, handler_kind, mask, call, what, refusal, handler, sends, received, outcome}
 use Rattle.am_lab_page.specs.Json.Objects.{spread}
-use Rattle.am_lab_page.specs.Json.Laws.{IsPlain, NothingIsEscaped, are_plain, is_plain}
+use Rattle.am_lab_page.specs.Json.Laws.{NothingIsEscaped, are_plain, is_plain}
 use Rattle.am_lab_xml.proofs.Bools.{all_of_both, first, second, joined}
 
 -- ---- numbers

@@ -1,5 +1,5 @@
 -- A text without `<` has neither `</script` nor `<!--`.
-use Rattle.std.proofs.Common.{◌≡◌, ℕ, ◌+◌, Bool, true, false, ◌&&◌, ◌||◌, ◌==◌, eqb, not, List, [], ◌∷◌, ◌++◌, codes, refl, ap, ◌∙◌}
+use Rattle.std.proofs.Common.{◌≡◌, ℕ, ◌+◌, Bool, true, false, ◌&&◌, ◌||◌, ◌==◌, eqb, not, List, [], ◌∷◌, codes, refl}
 use Rattle.std.specs.List.{list_all}
 use Rattle.am_lab_picture.specs.Rows.{row}
 use Rattle.am_lab_xml.proofs.Bools.{all_of_both, all_weaker, apart, first, not_so, second}
@@ -10,7 +10,7 @@ use Rattle.am_lemmas.specs.Numbered.{numbered}
 use Rattle.am_office_entries.specs.declared.Entry.{Entry}
 use Rattle.am_lab_page.specs.Json.Laws.{is_of_object}
 use Rattle.am_lab_page.specs.Json.Objects.{json_of, object_line, object_of}
-use Rattle.am_lab_page.specs.Page.Laws.{ChangesBeginNoTag, EndsNoScript, JournalsEndNoScript, has}
+use Rattle.am_lab_page.specs.Page.Laws.{ChangesBeginNoTag, JournalsEndNoScript, has}
 use Rattle.am_lab_page.proofs.Lines.{objects_are_inert}
 
 is_other : ℕ → Bool

@@ -1,5 +1,5 @@
 -- The journal of a report, told as JSON.
-use Rattle.std.proofs.Common.{◌≡◌, ℕ, ◌+◌, ◌-◌, ◌<◌, ◌≤◌, ◌^◌, List, [], ◌∷◌, ◌++◌, take, drop, length, map, Option, Some, Result, Ok, Err, refl, sym, ap, ◌∙◌, subst, inr, arith}
+use Rattle.std.proofs.Common.{◌≡◌, ℕ, ◌+◌, List, [], ◌∷◌, ◌++◌, take, drop, length, map, Option, Some, Result, Ok, refl, sym, ap, ◌∙◌, subst, inr, arith}
 use Rattle.std.proofs.lemmas.List.{take_all}
 use Rattle.std.specs.Global.{Vec}
 use Rattle.std.specs.Option.{option_map}
@@ -13,8 +13,7 @@ use Rattle.am_lab_picture.specs.declared.data.Row.{Row}
 use Rattle.am_lab_reasons.proofs.Reported.{same_scenario}
 use Rattle.am_lemmas.specs.Numbered.{numbered}
 use Rattle.am_main_step.specs.Checks.{CheckAnswers}
-use Rattle.am_main_lines.specs.declared.outputs.Output.{Output}
-use Rattle.am_main_lines.specs.Lines.{Answer, answer_in}
+use Rattle.am_main_lines.specs.Lines.{Answer}
 use Rattle.am_office_entries.specs.declared.Entry.{Entry}
 use Rattle.am_office_report.specs.Report.{report}
 use Rattle.am_scenario.specs.Grammar.{grammar}

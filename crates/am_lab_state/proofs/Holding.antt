@@ -1,8 +1,7 @@
 -- What is told of an endpoint that lies in memory.
-use Rattle.std.proofs.Common.{◌≡◌, ℕ, Bool, true, false, List, Option, Some, None, refl, ◌↔◌}
+use Rattle.std.proofs.Common.{◌≡◌, ℕ, Bool, true, false, Option, Some, None, refl, ◌↔◌}
 use Rattle.am_model.specs.Endpoint.{Body}
 use Rattle.am_names.specs.declared.EndpointId.{EndpointId}
-use Rattle.am_names.specs.declared.Serial.{Serial}
 use Rattle.am_lab_state.specs.Ends.{body_in_memory, body_lines}
 use Rattle.am_lab_state.specs.Messages.{body_named, named_in_memory}
 

@@ -1,5 +1,5 @@
 -- What is written to disk is read off the log of an endpoint.
-use Rattle.std.proofs.Common.{◌≡◌, ℕ, Bool, true, false, cond, ◌||◌, List, [], ◌∷◌, refl, ap, ◌∙◌}
+use Rattle.std.proofs.Common.{◌≡◌, Bool, true, false, cond, ◌||◌, List, [], ◌∷◌, refl, ap, ◌∙◌}
 use Rattle.std.specs.List.{filter, list_any}
 use Rattle.am_model.specs.Endpoint.{State}
 use Rattle.am_names.specs.declared.EndpointId.{EndpointId}

@@ -4,7 +4,6 @@ use Rattle.std.specs.Fmt.{decimal}
 use Rattle.std.specs.List.{flat_map, list_any}
 use Rattle.am_lemmas.specs.Numbered.{numbered}
 use Rattle.am_names.specs.Names.{same_serial}
-use Rattle.am_names.specs.declared.EndpointId.{EndpointId}
 use Rattle.am_names.specs.declared.Message.{Message}
 use Rattle.am_names.specs.declared.Serial.{Serial}
 use Rattle.am_office_entries.specs.Entries.{accepted_of}

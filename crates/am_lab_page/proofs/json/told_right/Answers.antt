@@ -1,5 +1,3 @@
-use Rattle.am_main_lines.specs.Lines.{answer_in}
-use Rattle.am_lab_page.proofs.Telling.{json_right}
 use Rattle.am_lab_page.proofs.json.told_right.Goals as goal
 
 pub checked_text-requires-clause-checked : goal.checked_text-requires-clause-checked

@@ -1,4 +1,4 @@
-use Rattle.std.proofs.Common.{◌≡◌, ◌==◌, ℕ, None, sym, ap, ◌∙◌}
+use Rattle.std.proofs.Common.{◌==◌, ℕ, sym, ap, ◌∙◌}
 use Rattle.std.specs.List.{position}
 use Rattle.am_lab_state.proofs.Taking.{none_to_take}
 use Rattle.am_lab_state.proofs.unreceived.take_packet.Goals as goal
