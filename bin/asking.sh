@@ -179,6 +179,9 @@ by_row() {
         elif [ "$token" = '[FROM-TO]' ]; then
             if is_number "${words[taken]-}" 0 4294967295 && is_number "${words[taken + 1]-}" 0 4294967295; then
                 taken=$((taken + 2))
+            elif fits E.K "${words[taken]-}"; then
+                wanted=E.K
+                return
             elif [[ ${words[taken]-} =~ ^-?[0-9]+$ ]]; then
                 wanted='[FROM TO]'
                 return

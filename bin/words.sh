@@ -12,6 +12,7 @@ word_rows=(
     am2_lab 'explain run' any 'tells what is wrong with a scenario of threads or its report, and what was due there' 'explain run examples/run-plan.am2 examples/run-plan.out'
     am2_lab 'why step|run E.K' both 'tells what became of a message, and why' 'why run 0.2 examples/run-withheld.am2 examples/run-withheld.out'
     am2_lab 'chart step|run [FROM TO]' both 'draws the journal, or some lines of it, as SVG' 'chart run -o plan.svg examples/run-plan.am2 examples/run-plan.out'
+    am2_lab 'chart step|run E.K' both 'draws the lines that touch a message, as SVG' 'chart run 0.2 -o message.svg examples/run-withheld.am2 examples/run-withheld.out'
     am2_lab 'replay run' both 'prints the journal of a run as a step script' 'replay run examples/run-plan.am2 examples/run-plan.out'
     am2_lab 'scenario step|run' scenario 'prints a scenario in one form' 'scenario step examples/first.am2'
     am2_lab 'scenario make N' nothing 'prints the scenario that am2 make N runs' 'scenario make 7'

@@ -5,7 +5,9 @@ For each pair of files, or for each of examples/ without any, the whole picture 
 are to be the journal's lines; there is to be an arrow from the row that sends a packet to each row that receives it, and a cross in the row of each
 packet that is never received; and arrows, crosses and signs have the colour of the message's fate, the dashes of its kind, and are pale where nothing
 comes of them. The bars are to be those of a second machine that makes the entries again. Heads, bars, arrows and crosses have the titles that they are
-to have, and the legend has each sign that occurs, once. Pictures with rows of text alone are read, those of at most 400 entries.
+to have, and the legend has each sign that occurs, once. Pictures with rows of text alone are read, those of at most 400 entries. Of each report the
+picture of one message more is read, another message in each: just the lines that name it or give it up are to be its rows, with what the picture of
+the whole journal has at them.
 """
 import pathlib
 import re
@@ -40,11 +42,11 @@ SVG = "{http://www.w3.org/2000/svg}"
 SERIAL = re.compile(r"\d+\.\d+$")
 
 
-def drawn(program, form, text):
-    """The picture of a scenario and its report."""
-    done = subprocess.run([program, "chart", form], input=text, capture_output=True, text=True, check=False)
+def drawn(program, form, text, *words):
+    """The picture of a scenario and its report, by these words behind the form."""
+    done = subprocess.run([program, "chart", form, *words], input=text, capture_output=True, text=True, check=False)
     if done.returncode:
-        raise SystemExit(f"chart {form} ended with {done.returncode}")
+        raise SystemExit(f"chart {form} {' '.join(words)} ended with {done.returncode}")
     return tree.fromstring(done.stdout)
 
 
@@ -112,6 +114,30 @@ def y_of(row):
     return edge_of(row) + PITCH // 2
 
 
+class Shown:
+    """The rows of the journal that a picture shows, and how high each lies."""
+
+    def __init__(self, rows):
+        self.rows = list(rows)
+        self.places = {row: place for place, row in enumerate(self.rows)}
+
+    def y_of(self, row):
+        """The middle of a row that is shown, and of another the edge between those in front of it and those behind it."""
+        return y_of(self.places[row]) if row in self.places else edge_of(sum(it < row for it in self.rows))
+
+    def has_bar(self, first, last):
+        """Whether a bar is drawn that stands behind one row and no longer behind another: at one that is shown, and in a picture without any."""
+        return not self.rows or any(first <= it <= last for it in self.rows)
+
+
+def touching(lines, serial):
+    """The rows of the lines whose outcome names a message, or that give it up."""
+    for row, line in enumerate(lines):
+        event, _, outcome = (it.split() for it in line.partition(" -> "))
+        if serial in outcome or event[1] == "giveup" and outcome == ["ok"] and event[3] == serial:
+            yield row
+
+
 def title_of(element):
     """What whoever points at an element is told: its first child."""
     first = next(iter(element), None)
@@ -141,12 +167,12 @@ def way_title(journal, packet):
     return f"{serial} packet {number}, {source} to {there}, line {row + 3}"
 
 
-def arrows_due(journal, colour):
+def arrows_due(journal, shown, colour):
     """The arrows that are due."""
     return [
-        (y_of(journal.sent[packet][0]), y_of(row), colour(journal.sent[packet][1]), journal.dashes(packet),
+        (shown.y_of(journal.sent[packet][0]), shown.y_of(row), colour(journal.sent[packet][1]), journal.dashes(packet),
          "0.4" if what in ("again", "stale", "nothing") else "1", f"{way_title(journal, packet)} to {row + 3}")
-        for packet, row, what in journal.received
+        for packet, row, what in journal.received if row in shown.places or journal.sent[packet][0] in shown.places
     ]
 
 
@@ -159,8 +185,8 @@ def spans(values):
         line = until
 
 
-def bars_due(scenario, report):
-    """The class and the title of each bar, by the machine that makes the entries again."""
+def bars_due(scenario, report, shown):
+    """The class, the place and the title of each bar at a row that is shown, by the machine that makes the entries again."""
     states = States(scenario, report)
     ends = {id: [] for id in states.cluster.ends}
 
@@ -175,17 +201,18 @@ def bars_due(scenario, report):
     for id in sorted(ends):
         for (place, drains), *lines in spans([it[0] for it in ends[id]]):
             word = f"{'draining in ' * drains}frame {place}" if isinstance(place, int) else "direct network" if place == "direct" else place
-            yield "draining" if drains else "frame" if isinstance(place, int) else place, *bar_due(id, word, *lines, len(states.journal))
+            yield from bar_due("draining" if drains else "frame" if isinstance(place, int) else place, id, word, *lines, shown)
         for kind, name in ((1, "records"), (2, "received")):
             for count, *lines in spans([it[kind] for it in ends[id]]):
                 if count:
-                    yield name, *bar_due(id, f"{name} {count}", *lines, len(states.journal))
+                    yield from bar_due(name, id, f"{name} {count}", *lines, shown)
 
 
-def bar_due(id, word, line, until, count):
-    """Where a bar begins and how high it is, and its title."""
-    top, end = (TOP if it < 3 else edge_of(count) if it == count + 3 else y_of(it - 3) for it in (line, until))
-    return top, end - top, f"endpoint {id}: {word}, line {line} to {until}"
+def bar_due(name, id, word, line, until, shown):
+    """A bar's class, where it begins and how high it is, and its title; none at no row that is shown."""
+    top, end = shown.y_of(line - 3), shown.y_of(until - 3)
+    if shown.has_bar(line - 3, until - 3):
+        yield name, top, end - top, f"endpoint {id}: {word}, line {line} to {until}"
 
 
 def heads_in(picture):
@@ -242,20 +269,24 @@ def legend_lines_are_full(picture):
     return heights == [18 + 24 * line for line in range(len(heights))] and totals == [18 + 24 * len(heights) - 4]
 
 
-def faults_in(picture, scenario, report):
-    """What is wrong with a picture."""
+def faults_in(picture, scenario, report, serial=None):
+    """What is wrong with a picture, of a message or of the whole journal."""
     lines, fates = lines_of(report)
     journal = Journal(lines)
+    shown = Shown(touching(lines, serial) if serial else range(len(lines)))
 
     def colour(serial):
         return fates.get(serial, "plain")
 
-    if [title_of(it) for it in picture.findall(SVG + "g")] != lines:
+    if [title_of(it) for it in picture.findall(SVG + "g")] != [lines[row] for row in shown.rows]:
         yield "titles of rows"
-    if arrows_in(picture) != arrows_due(journal, colour):
+    if arrows_in(picture) != arrows_due(journal, shown, colour):
         yield "arrows"
     got = {packet for packet, _, _ in journal.received}
-    lost = sorted((y_of(it[0]), colour(it[1]), f"{way_title(journal, packet)}, not received") for packet, it in journal.sent.items() if packet not in got)
+    lost = sorted(
+        (shown.y_of(it[0]), colour(it[1]), f"{way_title(journal, packet)}, not received")
+        for packet, it in journal.sent.items() if packet not in got and it[0] in shown.places
+    )
     crosses = [
         (int(it.get("y")), it.get("class"), title_of(it))
         for it in picture if (it.get("href") or "").startswith("#lost") and int(it.get("y")) > TOP  # above stands the legend
@@ -265,22 +296,25 @@ def faults_in(picture, scenario, report):
     bars = [
         (it.get("class"), int(it.get("y")), int(it.get("height")), title_of(it)) for it in picture if it.tag == SVG + "rect" and it.get("class") in BARS
     ]
-    if bars != list(bars_due(scenario, report)):
+    if bars != list(bars_due(scenario, report, shown)):
         yield "bars"
-    if sorted(heads_in(picture), key=str) != sorted(heads_due(States(scenario, report), len(lines)), key=str):
+    if sorted(heads_in(picture), key=str) != sorted(heads_due(States(scenario, report), len(shown.rows)), key=str):
         yield "heads"
     if list(legend_in(picture)) != legend_due(picture):
         yield "legend"
     if not legend_lines_are_full(picture):
         yield "lines of the legend"
-    yield from row_faults(picture, journal, lines, colour)
+    yield from row_faults(picture, journal, lines, shown, colour)
 
 
-def row_faults(picture, journal, lines, colour):
-    """What is wrong with the signs of rows."""
-    for row, group in enumerate(picture.findall(SVG + "g")):
+def row_faults(picture, journal, lines, shown, colour):
+    """What is wrong with the numbers and the signs of rows."""
+    numbers = [it.text for it in picture.iter(SVG + "text") if it.get("class") == "line-number"]
+    if numbers != [str(row + 3) for row in shown.rows]:
+        yield "numbers of lines"
+    for row, group in zip(shown.rows, picture.findall(SVG + "g")):
         serial, signs = journal.about[row], group.findall(SVG + "use")
-        if any(int(it.get("y")) != y_of(row) for it in signs):
+        if any(int(it.get("y")) != shown.y_of(row) for it in signs):
             yield f"row {row}: height"
         if lines[row].split()[1] != "receive" and any(it.get("class") != colour(serial) for it in signs):
             yield f"row {row}: colour"
@@ -298,17 +332,21 @@ def main():
     """Draws and reads each picture."""
     given = sys.argv[2:]
     chosen = [tuple(map(pathlib.Path, given[k:k + 2])) for k in range(0, len(given), 2)] or list(pairs())
-    wrong = rows = 0
+    wrong = rows = messages = 0
     for scenario, report in chosen:
         texts = scenario.read_text(), report.read_text()
-        lines, _ = lines_of(texts[1])
+        lines, fates = lines_of(texts[1])
         if len(lines) > 400:
             continue
         rows += len(lines)
-        for fault in faults_in(drawn(sys.argv[1], form_of(texts[0]), "".join(texts)), *texts):
+        faults = list(faults_in(drawn(sys.argv[1], form_of(texts[0]), "".join(texts)), *texts))
+        for serial in [sorted(fates)[rows % len(fates)]] if fates else []:
+            messages += 1
+            faults += [f"{serial}: {it}" for it in faults_in(drawn(sys.argv[1], form_of(texts[0]), "".join(texts), serial), *texts, serial)]
+        for fault in faults:
             wrong += 1
             print(f"{scenario}: {fault}")
-    print(f"{len(chosen)} pictures, {rows} rows, {wrong} faults")
+    print(f"{len(chosen)} pictures, {rows} rows, {messages} messages, {wrong} faults")
     sys.exit(1 if wrong or not rows else 0)
 
 

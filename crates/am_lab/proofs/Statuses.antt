@@ -1,5 +1,5 @@
 -- Which statuses the answers have.
-use Rattle.std.specs.Prelude.{Bool, true, false, take, nat_le, if◌then◌else◌, codes}
+use Rattle.std.specs.Prelude.{Bool, true, false, take, nat_le, ◌==◌, if◌then◌else◌, codes}
 use Rattle.std.specs.Io.KnownBytes.{Appends}
 use Rattle.std.specs.List.{list_any}
 use Rattle.std.proofs.Common.{◌≡◌, ◌≢◌, ◌⊎◌, inl, inr, ℕ, List, [], ◌∷◌, ◌++◌, Option, Some, None, Result, Ok, Err, length, refl, sym, ap, ◌∙◌, subst, arith}
@@ -10,10 +10,11 @@ use Rattle.am_io.specs.Causes.{Rose, Counter}
 use Rattle.am_io.specs.Whole.{IsLonger}
 use Rattle.am_job.specs.Rounds.{rounds_of}
 use Rattle.am_job.specs.Words.Codes.{sent_words}
-use Rattle.am_lab.specs.Answers.{AnswersText, AnswersTo, AnswersUncut, IsAnswered, IsDue, IsTaken, LacksEndpoint, TellsMessage, TellsWhy, making_of, no_endpoint, own_statuses, part_of, reads_text, statuses, too_long, lines_of_states}
+use Rattle.am_lab.specs.Answers.{AnswersText, AnswersTo, AnswersUncut, DrawsMessage, MessageChartAnswers, IsAnswered, IsDue, IsTaken, LacksEndpoint, TellsMessage, TellsWhy, making_of, no_endpoint, own_statuses, part_of, reads_text, statuses, too_long, lines_of_states}
 use Rattle.am_lab.specs.Cuts.{cut_report, full_if, full_line_of, reads_report}
 use Rattle.am_lab.specs.Explains.{Explains, ExplainsAlone, ExplainsAt, ExplainsBehind, ExplainsFault, ExplainsReport, ExplainsSteps}
-use Rattle.am_lab_drawings.specs.Charts.{ChartAnswers, DrawsReport, drawing_of}
+use Rattle.am_lab_drawings.specs.Charts.{ChartAnswers, DrawsReport, drawing_of, too_many_rows}
+use Rattle.am_lab_drawings.specs.Messages.{ChartsMessage, message_drawing, never_accepted}
 use Rattle.am_lab_drawings.specs.View.Parts.{is_within, lines_of, part_lines}
 use Rattle.am_lab_drawings.specs.View.Pictures.{picture_by}
 use Rattle.am_lab_drawings.specs.declared.view.parts.LineRange.{LineRange}
@@ -207,6 +208,36 @@ chart_own : (form : Form) (bytes : List ℕ) (part : Option LineRange) (answer :
     IsOneOf (0 ∷ 3 ∷ 6 ∷ 10 ∷ 11 ∷ 12 ∷ []) answer.status
 chart_own form bytes part answer c = chart_by form bytes part c.checked answer c.checks c.more
 
+-- a picture of a message: that there is none, of few rows, or that they are too many
+abbrev drawn_as : List ℕ → Answer
+drawn_as text = record { status = 0; text = text }
+
+rows_own : (none few : Bool) (s : Serial) (text : List ℕ) →
+    IsOneOf (0 ∷ 3 ∷ 6 ∷ 10 ∷ 11 ∷ 12 ∷ []) (if none then never_accepted s else (if few then drawn_as text else too_many_rows)).status
+rows_own true few s text = inl refl
+rows_own false true s text = inl refl
+rows_own false false s text = inr (inr (inr (inr (inl refl))))
+
+charts_own : (form : Form) (bytes : List ℕ) (serial : Serial) (answer : Answer) → ChartsMessage form bytes serial answer →
+    IsOneOf (0 ∷ 3 ∷ 6 ∷ 10 ∷ 11 ∷ 12 ∷ []) answer.status
+charts_own form bytes serial answer c =
+    as_one (0 ∷ 3 ∷ 6 ∷ 10 ∷ 11 ∷ 12 ∷ []) answer.status (message_drawing serial c.shown).status (same answer (message_drawing serial c.shown) c.answer')
+    (rows_own (length c.shown.rows == 0) (nat_le (length c.shown.rows) 20_000) serial _)
+
+draws_by : (form : Form) (bytes : List ℕ) (serial : Serial) (checked answer : Answer) → CheckAnswers form bytes checked →
+    ((checked.status ≢ 0) × (answer ≡ checked)) ⊎ (LacksEndpoint form bytes serial checked answer ⊎ DrawsMessage form bytes serial checked answer) →
+    IsOneOf (0 ∷ 3 ∷ 6 ∷ 10 ∷ 11 ∷ 12 ∷ []) answer.status
+unfolding no_endpoint
+draws_by form bytes serial checked answer checks (inl other) =
+    longer (0 ∷ 3 ∷ 6 ∷ 10 ∷ []) (11 ∷ 12 ∷ []) answer.status (checked_own form bytes checked answer checks other.1)
+draws_by form bytes serial checked answer checks (inr (inl lacks)) =
+    inr (inr (inr (inr (inr (inl (ap (λ (a : Answer). a.status) lacks.answer'))))))
+draws_by form bytes serial checked answer checks (inr (inr draws)) = charts_own form bytes serial answer draws.drawn
+
+message_own : (form : Form) (bytes : List ℕ) (serial : Serial) (answer : Answer) → MessageChartAnswers form bytes serial answer →
+    IsOneOf (0 ∷ 3 ∷ 6 ∷ 10 ∷ 11 ∷ 12 ∷ []) answer.status
+message_own form bytes serial answer d = draws_by form bytes serial d.checked answer d.checks d.more
+
 json_by : (form : Form) (bytes : List ℕ) (checked answer : Answer) → CheckAnswers form bytes checked →
     ((checked.status ≢ 0) × (answer ≡ checked)) ⊎ WritesJson form bytes checked answer → IsOneOf (0 ∷ 3 ∷ 6 ∷ 10 ∷ []) answer.status
 json_by form bytes checked answer checks (inl other) = checked_own form bytes checked answer checks other.1
@@ -356,6 +387,7 @@ command_own (Commands.Explain form) given bytes answer answers = explain_own fal
 command_own Commands.Front given bytes answer answers = explain_own true Forms.Step bytes answer answers
 command_own (Commands.Why form serial) given bytes answer answers = why_own form bytes serial answer answers
 command_own (Commands.Chart form lines) given bytes answer answers = chart_own form bytes (part_of lines) answer answers
+command_own (Commands.ChartMessage form serial) given bytes answer answers = message_own form bytes serial answer answers
 command_own (Commands.Scenario form) given bytes answer answers = scenario_own form bytes answer answers
 command_own (Commands.Made n) given bytes answer answers = inl answers.status'
 command_own Commands.Expanded given bytes answer answers = expanded_own (segment_grammar bytes) answer answers
@@ -382,6 +414,7 @@ full_own (Commands.Explain form) reads = inr (inr (inl refl))
 full_own Commands.Front reads = inr (inr (inl refl))
 full_own (Commands.Why form serial) reads = inr (inr (inl refl))
 full_own (Commands.Chart form lines) reads = inr (inr (inl refl))
+full_own (Commands.ChartMessage form serial) reads = inr (inr (inl refl))
 full_own (Commands.Scenario form) reads = absurd (cc)
 full_own (Commands.Made n) reads = absurd (cc)
 full_own Commands.Expanded reads = absurd (cc)
@@ -425,6 +458,7 @@ in_all (Commands.Explain form) status is = longer (0 ∷ 3 ∷ 6 ∷ 10 ∷ []) 
 in_all Commands.Front status is = longer (0 ∷ 3 ∷ 6 ∷ 10 ∷ []) (11 ∷ 12 ∷ []) status is
 in_all (Commands.Why form serial) status is = wider (0 ∷ 3 ∷ 6 ∷ 10 ∷ []) 11 (12 ∷ []) status is
 in_all (Commands.Chart form lines) status is = is
+in_all (Commands.ChartMessage form serial) status is = is
 in_all (Commands.Scenario form) status is = longer (0 ∷ 3 ∷ []) (6 ∷ 10 ∷ 11 ∷ 12 ∷ []) status is
 in_all (Commands.Made n) status is = longer (0 ∷ []) (3 ∷ 6 ∷ 10 ∷ 11 ∷ 12 ∷ []) status is
 in_all Commands.Expanded status is = longer (0 ∷ 3 ∷ []) (6 ∷ 10 ∷ 11 ∷ 12 ∷ []) status is

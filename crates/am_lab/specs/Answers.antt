@@ -15,6 +15,7 @@ use Rattle.am_scenario_types.specs.declared.parts.Form.{Form}
 use Rattle.am_scenario_types.specs.declared.parts.Form.TheVariants as Forms
 use Rattle.am_segment.specs.Spelling.{segment_grammar}
 use Rattle.am_lab_drawings.specs.Charts.{ChartAnswers}
+use Rattle.am_lab_drawings.specs.Messages.{ChartsMessage}
 use Rattle.am_lab_drawings.specs.declared.view.parts.LineRange.{LineRange}
 use Rattle.am_lab_words.specs.declared.Lines.{Lines}
 use Rattle.am_lab_page.specs.Json.Answers.{JsonAnswers}
@@ -67,6 +68,19 @@ pub record TellsWhy (form : Form) (bytes : List ℕ) (serial : Serial) (answer :
   pub checks : CheckAnswers form bytes checked
   pub more : ((checked.status ≢ 0) × (answer ≡ checked)) ⊎ (LacksEndpoint form bytes serial checked answer ⊎ TellsMessage form bytes serial checked answer)
 
+-- the report is right, its scenario declares the message's endpoint, and the lines that touch the message are drawn
+pub record DrawsMessage (form : Form) (bytes : List ℕ) (serial : Serial) (checked answer : Answer) : Type 0 where
+  pub right : checked.status ≡ 0
+  pub declared : IsDeclared form bytes serial.source true
+  pub drawn : ChartsMessage form bytes serial answer
+
+-- THE HEADLINE, for `chart` of a message: the answer is that of `check`, but where that says that the report is right, the lines that touch
+-- the message are drawn, or it is told that there is no such endpoint.
+pub record MessageChartAnswers (form : Form) (bytes : List ℕ) (serial : Serial) (answer : Answer) : Type 0 where
+  pub checked : Answer
+  pub checks : CheckAnswers form bytes checked
+  pub more : ((checked.status ≢ 0) × (answer ≡ checked)) ⊎ (LacksEndpoint form bytes serial checked answer ⊎ DrawsMessage form bytes serial checked answer)
+
 -- the part of a report that the words name
 abbrev pub part_of : Option Lines → Option LineRange
 part_of None = None
@@ -92,6 +106,7 @@ AnswersTo (Commands.Explain form) given bytes answer = Explains false form bytes
 AnswersTo Commands.Front given bytes answer = Explains true Forms.Step bytes answer
 AnswersTo (Commands.Why form serial) given bytes answer = TellsWhy form bytes serial answer
 AnswersTo (Commands.Chart form lines) given bytes answer = ChartAnswers form bytes (part_of lines) answer
+AnswersTo (Commands.ChartMessage form serial) given bytes answer = MessageChartAnswers form bytes serial answer
 AnswersTo (Commands.Scenario form) given bytes answer = ScenarioAnswers form bytes answer
 AnswersTo (Commands.Made n) given bytes answer = PrintsScenario (generated n) answer
 AnswersTo Commands.Expanded given bytes answer = ExpandedAnswers (segment_grammar bytes) answer
@@ -127,6 +142,7 @@ own_statuses (Commands.Explain form) = 0 ∷ 3 ∷ 6 ∷ 10 ∷ []
 own_statuses Commands.Front = 0 ∷ 3 ∷ 6 ∷ 10 ∷ []
 own_statuses (Commands.Why form serial) = 0 ∷ 3 ∷ 6 ∷ 10 ∷ 12 ∷ []
 own_statuses (Commands.Chart form lines) = 0 ∷ 3 ∷ 6 ∷ 10 ∷ 11 ∷ 12 ∷ []
+own_statuses (Commands.ChartMessage form serial) = 0 ∷ 3 ∷ 6 ∷ 10 ∷ 11 ∷ 12 ∷ []
 own_statuses (Commands.Scenario form) = 0 ∷ 3 ∷ []
 own_statuses (Commands.Made n) = 0 ∷ []
 own_statuses Commands.Expanded = 0 ∷ 3 ∷ []

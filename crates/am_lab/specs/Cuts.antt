@@ -31,6 +31,7 @@ reads_report (Commands.Explain form) = true
 reads_report Commands.Front = true
 reads_report (Commands.Why form serial) = true
 reads_report (Commands.Chart form lines) = true
+reads_report (Commands.ChartMessage form serial) = true
 reads_report (Commands.Scenario form) = false
 reads_report (Commands.Made n) = false
 reads_report Commands.Expanded = false

@@ -13,6 +13,7 @@ ghost use Rattle.am_scenario.specs.Grammar.{grammar};
 ghost use Rattle.am_scenario_types.specs.declared.parts.Form.TheVariants as Forms;
 ghost use Rattle.std.specs.Prelude.{◌≡◌, ◌<◌, ◌^◌, IfOk, false, length, true};
 
+use crate::charts::drawn_message;
 use crate::cuts::{cut_report, full_line_of};
 use crate::explains::explained;
 use am_check::laws::yes_is_true;
@@ -38,9 +39,9 @@ use am_office_text::{put_line, small};
 use am_scenario::Form;
 use std::alloc::{AllocError, Global};
 
-// That no line declares the endpoint of a message.
+/// That no line declares the endpoint of a message.
 #[tactic(auto, unfolding(crate::specs::Answers::no_endpoint))]
-fn no_endpoint(alloc: Global, end: EndpointId) -> Result<Output, AllocError>
+pub(crate) fn no_endpoint(alloc: Global, end: EndpointId) -> Result<Output, AllocError>
     ensures { IfOk result (λ o. answer_in o ≡ no_endpoint end) }
 {
     let mut text = Vec::new(alloc);
@@ -224,6 +225,7 @@ fn answered_uncut(
         Asked::Front => explained(alloc, true, Form::Step, bytes),
         Asked::Why { form, serial } => told_why(alloc, form, bytes, serial),
         Asked::Chart { form, part } => chart_output(alloc, form, bytes, part_of(part)),
+        Asked::ChartMessage { form, serial } => drawn_message(alloc, form, bytes, serial),
         Asked::Scenario(form) => scenario_output(alloc, form, bytes),
         Asked::Made(n) => made_scenario(alloc, n),
         Asked::Expanded => expanded_scenario(alloc, bytes),

@@ -46,6 +46,7 @@ fn reads_report(asked: Asked) -> bool
         | Asked::Front
         | Asked::Why { .. }
         | Asked::Chart { .. }
+        | Asked::ChartMessage { .. }
         | Asked::Replay
         | Asked::Json(_)
         | Asked::Shiviz(_)

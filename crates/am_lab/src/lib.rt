@@ -2,6 +2,7 @@
 #![tactic(auto)]
 
 mod answers;
+mod charts;
 mod cuts;
 mod explains;
 mod laws;

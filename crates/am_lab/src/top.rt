@@ -24,7 +24,7 @@ const TOO_LONG: &[u8] = b"input too long: more than 16777216 bytes\n";
 /// the line that tells a fault of the scenario stands that line with a mark under the place, which words might stand there,
 /// and what the text may be instead; of a scenario alone it tells the first step that can't happen, or that there is no
 /// report. `why`
-/// answers a right report with what became of a message, `chart` with a picture of its lines, `replay` with the run's
+/// answers a right report with what became of a message, `chart` with a picture of its lines or of those that touch a message, `replay` with the run's
 /// journal as a step script, and each any other text as `am2 check` does. `scenario` prints the scenario that it reads; or
 /// the one behind a run, of a number, for which nothing is read, of a text with segments, or of a round of a text's words.
 /// `schedule` prints the report of a run of the scenario, as `am2 run` may; or of many such runs a line each, and how many
@@ -45,10 +45,10 @@ const TOO_LONG: &[u8] = b"input too long: more than 16777216 bytes\n";
 /// | 7 | `input too long` and how long it may be | the source had more than 16,777,216 bytes left |
 /// | 8 | `no memory`, or a front of the text | there was no memory: for the answer, which may be at any time, or for the sink |
 /// | 11 | `journal too long` | `replay` of a right report with more than 65,536 entries, the most steps that a step script has |
-/// | 11 | `more than 20000 lines` | `chart` of more lines of a right report than it draws |
+/// | 11 | `more than 20000 lines` | `chart` of more lines of a right report than it draws, or of a message that more lines touch |
 /// | 11 | `text too long` and how long it may be | `scenario count` of more than 1,048,576 bytes |
 /// | 12 | `no such lines` and which there are | `chart` and `state` of lines that a right report's journal doesn't have; `chart` of none |
-/// | 12 | `no endpoint` and its number | `why` of a message of an endpoint that a right report's scenario doesn't declare |
+/// | 12 | `no endpoint` and its number | `why` and `chart` of a message of an endpoint that a right report's scenario doesn't declare |
 /// | 12 | `no round` and how many there are | `scenario count` of a text that has no round with this number |
 /// | 12 | `no such seed` and the range | `find` where no seed's report is one that is looked for |
 /// | 12 | `no such line` | `shrink` of a scenario whose report has no line that begins with the given words |
