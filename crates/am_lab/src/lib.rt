@@ -4,6 +4,7 @@
 mod answers;
 mod cuts;
 mod explains;
+mod fronts;
 mod laws;
 mod requests;
 mod top;
