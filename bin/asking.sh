@@ -179,7 +179,7 @@ by_row() {
         elif [ "$token" = '[FROM-TO]' ]; then
             if is_number "${words[taken]-}" 0 4294967295 && is_number "${words[taken + 1]-}" 0 4294967295; then
                 taken=$((taken + 2))
-            elif [[ ${words[taken]-} =~ ^-?[0-9]+$ ]]; then
+            elif [[ ${words[taken]-} =~ ^(-?[0-9]+(\.[0-9]+)?|--.*)$ ]]; then
                 wanted='[FROM TO]'
                 return
             fi
@@ -433,7 +433,7 @@ read_options() {
                 ;;
             --?*)
                 case ${words[0]-}:$1 in
-                    shrink:--seed | schedule:--faults | find:--faults) words+=("$1") ;;
+                    shrink:--seed | schedule:--faults | find:--faults | why:--front | chart:--front) words+=("$1") ;;
                     *) flags+=("$1") ;;
                 esac
                 ;;
