@@ -182,7 +182,7 @@ by_row() {
             elif fits E.K "${words[taken]-}"; then
                 wanted=E.K
                 return
-            elif [[ ${words[taken]-} =~ ^-?[0-9]+$ ]]; then
+            elif [[ ${words[taken]-} =~ ^(-?[0-9]+(\.[0-9]+)?|--.*)$ ]]; then
                 wanted='[FROM TO]'
                 return
             fi
@@ -436,7 +436,7 @@ read_options() {
                 ;;
             --?*)
                 case ${words[0]-}:$1 in
-                    shrink:--seed | schedule:--faults | find:--faults) words+=("$1") ;;
+                    shrink:--seed | schedule:--faults | find:--faults | why:--front | chart:--front) words+=("$1") ;;
                     *) flags+=("$1") ;;
                 esac
                 ;;

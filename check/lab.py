@@ -4,7 +4,8 @@
 For each pair of files, or for each of examples/ without any: `why` of each message of the report, of one that it
 lacks, and of one of an endpoint that the scenario lacks; and `explain` of the right report, of the report with each of
 its lines changed in turn, of the report cut off behind each line, of the scenario alone, and of the scenario with a
-line spoiled, four times. The scenario tells its form. `scenario` prints it without a comment and printed again as it
+line spoiled, four times; `why --front` and `chart --front` of the report with a line of its journal changed, cut off behind
+it, and so with the line of a full log in front. The scenario tells its form. `scenario` prints it without a comment and printed again as it
 is, and AM2, the program am2, judges and makes the same report of it. Of a run `replay` prints what AM2 makes the same
 report of, callers aside.
 """
@@ -163,6 +164,50 @@ def judge(program, scenario, report):
     return faults, asked
 
 
+def fates_in(journal):
+    """The fates of the messages of a journal, whatever stands behind it."""
+    outcomes = [(*parts(line),) for line in journal]
+    accepted = [out[1] for event, out in outcomes if event[1] == "request" and out[:1] == ["ok"]]
+    accepted += [out[4] for _, out in outcomes if out[:1] == ["ran"] and out[3:4] == ["sends"]]
+    fates = {}
+    for serial in accepted:
+        words = [out for _, out in outcomes if out[1:2] == [serial]]
+        causes = [out[2] for out in words if out[0] == "returned"]
+        lost, ran = ["unknown", serial] in words, any(out[0] == "ran" for out in words)
+        fates[serial] = ["returned", causes[0]] if causes else [("unknown-but-ran" if ran else "unknown") if lost else "ran" if ran else "pending"]
+    return fates
+
+
+def fronts_wrongly(program, scenario, report):
+    """What is wrong in what is told and drawn in front of a fault, and how much was asked."""
+    form, lines, faults, asked = form_of(scenario), report.splitlines(), [], 0
+    count = int(lines[1].split()[1])
+    plan = {(int(it[1]), int(it[2]), int(it[3])): it[4:] for it in map(str.split, scenario.splitlines()) if it[:1] == ["plan"]}
+    serials = [*fates_in(lines[2:2 + count]), "255.9"]
+    for at in range(2, 2 + count):
+        front, serial = lines[2:at], serials[at % len(serials)]
+        told_there = reasons(plan, front, fates_in(front), serial)
+        changed = "\n".join(lines[:at] + [lines[at] + (" 0" if lines[at][-1:].isdigit() else "0")] + lines[at + 1:]) + "\n"
+        cut = "\n".join(lines[:at]) + "\n"
+        for spoiled in (changed, cut):
+            first = told(program, "explain", form, scenario + spoiled)[1].splitlines()[0]
+            for full in ("", "log full 0\n"):
+                asked += 2
+                status = 6 if full else 10
+                if told(program, "why", form, scenario + full + spoiled, "--front", serial) != (status, f"{full}{first}\n{told_there}"):
+                    faults.append(f"why {form} --front {serial} in front of line {at + 1}")
+                said = f"{full.strip()}, {first}" if full else first
+                drawn = told(program, "chart", form, scenario + full + spoiled, "--front")
+                row = f'class="fault" color="#b3261e"><title>first fault: line {at + 1}</title>{said}</text></svg>\n'
+                if drawn[0] != status or not drawn[1].startswith("<svg ") or not drawn[1].endswith(row) or drawn[1].count("<g><title>") != at - 2:
+                    faults.append(f"chart {form} --front in front of line {at + 1}")
+    for words in (("why", serials[0]), ("chart",)):
+        asked += 1
+        if told(program, words[0], form, scenario + report, "--front", *words[1:]) != told(program, words[0], form, scenario + report, *words[1:]):
+            faults.append(f"{words[0]} {form} --front of a right report")
+    return faults, asked
+
+
 def spoiled_scenario(draw, lines):
     """The lines of a scenario, of which one is spoiled: a word replaced, the last word gone or another behind it, a byte that
     may not stand there, or the line once more, at another place."""
@@ -234,7 +279,7 @@ def main(program, am2, *files):
             continue
         text = scenario.read_text()
         both = [judged(program, am2, text, report) for judged in (printed_wrongly, replayed_wrongly)]
-        both.append(refused_wrongly(program, text))
+        both += [refused_wrongly(program, text), fronts_wrongly(program, text, report)]
         for faults, asked in [judge(program, text, report), *both]:
             total += asked
             bad += len(faults)

@@ -6,14 +6,17 @@ use Rattle.std.proofs.Common.{◌≡◌, ◌≢◌, ◌⊎◌, inl, inr, ℕ, Li
 use Rattle.am_check.specs.Cut.{place_of}
 use Rattle.am_check.specs.declared.faults.CheckStop.{CheckStop}
 use Rattle.am_check.specs.declared.faults.CheckStop.TheVariants as Stops
+use Rattle.am_check.specs.declared.faults.CheckWhat.{CheckWhat}
 use Rattle.am_io.specs.Causes.{Rose, Counter}
 use Rattle.am_io.specs.Whole.{IsLonger}
 use Rattle.am_job.specs.Rounds.{rounds_of}
 use Rattle.am_job.specs.Words.Codes.{sent_words}
+use Rattle.am_lab.specs.Answers.{DrawsChartFront, DrawsFrontBy, TellsFault, TellsFrontBy, TellsIf, TellsWhyFront}
 use Rattle.am_lab.specs.Answers.{AnswersText, AnswersTo, AnswersUncut, DrawsMessage, MessageChartAnswers, IsAnswered, IsDue, IsTaken, LacksEndpoint, TellsMessage, TellsWhy, making_of, no_endpoint, own_statuses, part_of, reads_text, statuses, too_long, lines_of_states}
-use Rattle.am_lab.specs.Cuts.{cut_report, full_if, full_line_of, reads_report}
+use Rattle.am_lab.specs.Cuts.{cut_report, full_before, full_if, full_line_of, reads_report}
 use Rattle.am_lab.specs.Explains.{Explains, ExplainsAlone, ExplainsAt, ExplainsBehind, ExplainsFault, ExplainsReport, ExplainsSteps}
 use Rattle.am_lab_drawings.specs.Charts.{ChartAnswers, DrawsReport, drawing_of, too_many_rows}
+use Rattle.am_lab_drawings.specs.Fronts.{DrawsFault, DrawsIf, front_drawing, whole_picture}
 use Rattle.am_lab_drawings.specs.Messages.{ChartsMessage, message_drawing, never_accepted}
 use Rattle.am_lab_drawings.specs.View.Parts.{is_within, lines_of, part_lines}
 use Rattle.am_lab_drawings.specs.View.Pictures.{picture_by}
@@ -23,6 +26,7 @@ use Rattle.am_lab_drawings.specs.declared.view.parts.PictureFault.TheVariants as
 use Rattle.am_lab_page.specs.Json.Answers.{JsonAnswers, WritesJson}
 use Rattle.am_lab_page.specs.Page.Pages.{IsPage, PageAnswers, WritesPage}
 use Rattle.am_lab_picture.specs.Data.{PictureLists}
+use Rattle.am_lab_reasons.specs.Before.{has_front}
 use Rattle.am_lab_picture.specs.declared.data.Lines.{Lines}
 use Rattle.am_lab_scenarios.specs.Derived.Answers.{ExpandedAnswers, FaultsAnswers, RoundAnswers, RoundOrNone, with_number}
 use Rattle.am_lab_scenarios.specs.Texts.Replays.{ReplayAnswers, TellsReplay, TellsRun}
@@ -170,6 +174,31 @@ why_own : (form : Form) (bytes : List ℕ) (serial : Serial) (answer : Answer) �
     IsOneOf (0 ∷ 3 ∷ 6 ∷ 10 ∷ 12 ∷ []) answer.status
 why_own form bytes serial answer w = why_by form bytes serial w.checked answer w.checks w.more
 
+-- what is told of a message in front of a fault has the status of `check`
+front_status : (has : Bool) (form : Form) (bytes : List ℕ) (serial : Serial) (number : ℕ) (what : CheckWhat) (checked answer : Answer) →
+    TellsIf has form bytes serial number what checked answer → answer.status ≡ checked.status
+front_status true form bytes serial number what checked answer tells = ap (λ (a : Answer). a.status) tells.answer'
+front_status false form bytes serial number what checked answer is = same answer checked is
+
+up_to_by : (form : Form) (serial : Serial) (bytes : List ℕ) (checked answer : Answer) → CheckAnswers form bytes checked →
+    ((checked.status ≢ 10) × TellsWhy form bytes serial answer) ⊎ TellsFault form bytes serial checked answer →
+    IsOneOf (0 ∷ 3 ∷ 6 ∷ 10 ∷ 12 ∷ []) answer.status
+up_to_by form serial bytes checked answer checks (inl other) = why_own form bytes serial answer other.1
+up_to_by form serial bytes checked answer checks (inr fault) =
+    longer (0 ∷ 3 ∷ 6 ∷ 10 ∷ []) (12 ∷ []) answer.status
+    (as_one (0 ∷ 3 ∷ 6 ∷ 10 ∷ []) answer.status checked.status
+    (front_status (has_front fault.number fault.what) form bytes serial fault.number fault.what checked answer fault.told)
+    (check_own form bytes checked checks))
+
+why_front_by : (full : Option (List ℕ)) (form : Form) (serial : Serial) (bytes : List ℕ) (answer : Answer) → TellsFrontBy full form serial bytes answer →
+    IsOneOf (0 ∷ 3 ∷ 6 ∷ 10 ∷ 12 ∷ []) answer.status
+why_front_by None form serial bytes answer tells = up_to_by form serial bytes tells.checked answer tells.checks tells.more
+why_front_by (Some line) form serial bytes answer tells = inr (inr (inl (ap (λ (a : Answer). a.status) tells.answer')))
+
+why_front_own : (form : Form) (serial : Serial) (bytes : List ℕ) (answer : Answer) → TellsWhyFront form serial bytes answer →
+    IsOneOf (0 ∷ 3 ∷ 6 ∷ 10 ∷ 12 ∷ []) answer.status
+why_front_own form serial bytes answer tells = why_front_by (full_before bytes (place_of bytes)) form serial bytes answer tells
+
 -- a picture of few lines, or that they are too many
 few_own : (few : Bool) (bytes : List ℕ) (s : ScenarioLists) (journal : List Entry) (lines : Lines) →
     IsOneOf (0 ∷ 3 ∷ 6 ∷ 10 ∷ 11 ∷ 12 ∷ []) (drawing_of bytes (picture_by s journal (if few then Ok lines else Err Pictures.TooManyRows))).status
@@ -237,6 +266,40 @@ draws_by form bytes serial checked answer checks (inr (inr draws)) = charts_own 
 message_own : (form : Form) (bytes : List ℕ) (serial : Serial) (answer : Answer) → MessageChartAnswers form bytes serial answer →
     IsOneOf (0 ∷ 3 ∷ 6 ∷ 10 ∷ 11 ∷ 12 ∷ []) answer.status
 message_own form bytes serial answer d = draws_by form bytes serial d.checked answer d.checks d.more
+
+-- what is drawn in front of a fault has the status of `check`, or its lines are too many
+whole_own : (few : Bool) (words : List ℕ) (number : ℕ) (checked : Answer) (s : ScenarioLists) (journal : List Entry) (lines : Lines) →
+    IsOneOf (0 ∷ 3 ∷ 6 ∷ 10 ∷ 11 ∷ 12 ∷ []) checked.status → IsOneOf (0 ∷ 3 ∷ 6 ∷ 10 ∷ 11 ∷ 12 ∷ [])
+    (front_drawing words number checked (picture_by s journal (if few then Ok lines else Err Pictures.TooManyRows))).status
+whole_own true words number checked s journal lines own = own
+whole_own false words number checked s journal lines own = inr (inr (inr (inr (inl refl))))
+
+drawn_own : (has : Bool) (form : Form) (words bytes : List ℕ) (number : ℕ) (what : CheckWhat) (checked answer : Answer) →
+    DrawsIf has form words bytes number what checked answer → IsOneOf (0 ∷ 3 ∷ 6 ∷ 10 ∷ 11 ∷ 12 ∷ []) checked.status →
+    IsOneOf (0 ∷ 3 ∷ 6 ∷ 10 ∷ 11 ∷ 12 ∷ []) answer.status
+drawn_own true form words bytes number what checked answer d own =
+    let drawn = front_drawing words number checked (whole_picture d.scenario d.journal) in
+    as_one (0 ∷ 3 ∷ 6 ∷ 10 ∷ 11 ∷ 12 ∷ []) answer.status drawn.status (same answer drawn d.answer')
+    (whole_own (nat_le (length d.journal) 20_000) words number checked d.scenario d.journal (record { first = 3; count = length d.journal }) own)
+drawn_own false form words bytes number what checked answer is own =
+    as_one (0 ∷ 3 ∷ 6 ∷ 10 ∷ 11 ∷ 12 ∷ []) answer.status checked.status (same answer checked is) own
+
+fronts_by : (form : Form) (words bytes : List ℕ) (checked answer : Answer) → CheckAnswers form bytes checked →
+    ((checked.status ≢ 10) × ChartAnswers form bytes None answer) ⊎ DrawsFault form words bytes checked answer →
+    IsOneOf (0 ∷ 3 ∷ 6 ∷ 10 ∷ 11 ∷ 12 ∷ []) answer.status
+fronts_by form words bytes checked answer checks (inl other) = chart_own form bytes None answer other.1
+fronts_by form words bytes checked answer checks (inr fault) =
+    drawn_own (has_front fault.number fault.what) form words bytes fault.number fault.what checked answer fault.drawn
+    (longer (0 ∷ 3 ∷ 6 ∷ 10 ∷ []) (11 ∷ 12 ∷ []) checked.status (check_own form bytes checked checks))
+
+chart_front_by : (full : Option (List ℕ)) (form : Form) (bytes : List ℕ) (answer : Answer) → DrawsFrontBy full form bytes answer →
+    IsOneOf (0 ∷ 3 ∷ 6 ∷ 10 ∷ 11 ∷ 12 ∷ []) answer.status
+chart_front_by None form bytes answer draws = fronts_by form [] bytes draws.checked answer draws.checks draws.more
+chart_front_by (Some line) form bytes answer draws = inr (inr (inl (ap (λ (a : Answer). a.status) draws.answer')))
+
+chart_front_own : (form : Form) (bytes : List ℕ) (answer : Answer) → DrawsChartFront form bytes answer →
+    IsOneOf (0 ∷ 3 ∷ 6 ∷ 10 ∷ 11 ∷ 12 ∷ []) answer.status
+chart_front_own form bytes answer draws = chart_front_by (full_before bytes (place_of bytes)) form bytes answer draws
 
 json_by : (form : Form) (bytes : List ℕ) (checked answer : Answer) → CheckAnswers form bytes checked →
     ((checked.status ≢ 0) × (answer ≡ checked)) ⊎ WritesJson form bytes checked answer → IsOneOf (0 ∷ 3 ∷ 6 ∷ 10 ∷ []) answer.status
@@ -386,8 +449,10 @@ unfolding AnswersTo own_statuses
 command_own (Commands.Explain form) given bytes answer answers = explain_own false form bytes answer answers
 command_own Commands.Front given bytes answer answers = explain_own true Forms.Step bytes answer answers
 command_own (Commands.Why form serial) given bytes answer answers = why_own form bytes serial answer answers
+command_own (Commands.WhyFront form serial) given bytes answer answers = why_front_own form serial bytes answer answers
 command_own (Commands.Chart form lines) given bytes answer answers = chart_own form bytes (part_of lines) answer answers
 command_own (Commands.ChartMessage form serial) given bytes answer answers = message_own form bytes serial answer answers
+command_own (Commands.ChartFront form) given bytes answer answers = chart_front_own form bytes answer answers
 command_own (Commands.Scenario form) given bytes answer answers = scenario_own form bytes answer answers
 command_own (Commands.Made n) given bytes answer answers = inl answers.status'
 command_own Commands.Expanded given bytes answer answers = expanded_own (segment_grammar bytes) answer answers
@@ -413,8 +478,10 @@ unfolding own_statuses
 full_own (Commands.Explain form) reads = inr (inr (inl refl))
 full_own Commands.Front reads = inr (inr (inl refl))
 full_own (Commands.Why form serial) reads = inr (inr (inl refl))
+full_own (Commands.WhyFront form serial) reads = absurd (cc)
 full_own (Commands.Chart form lines) reads = inr (inr (inl refl))
 full_own (Commands.ChartMessage form serial) reads = inr (inr (inl refl))
+full_own (Commands.ChartFront form) reads = absurd (cc)
 full_own (Commands.Scenario form) reads = absurd (cc)
 full_own (Commands.Made n) reads = absurd (cc)
 full_own Commands.Expanded reads = absurd (cc)
@@ -457,8 +524,10 @@ unfolding own_statuses
 in_all (Commands.Explain form) status is = longer (0 ∷ 3 ∷ 6 ∷ 10 ∷ []) (11 ∷ 12 ∷ []) status is
 in_all Commands.Front status is = longer (0 ∷ 3 ∷ 6 ∷ 10 ∷ []) (11 ∷ 12 ∷ []) status is
 in_all (Commands.Why form serial) status is = wider (0 ∷ 3 ∷ 6 ∷ 10 ∷ []) 11 (12 ∷ []) status is
+in_all (Commands.WhyFront form serial) status is = wider (0 ∷ 3 ∷ 6 ∷ 10 ∷ []) 11 (12 ∷ []) status is
 in_all (Commands.Chart form lines) status is = is
 in_all (Commands.ChartMessage form serial) status is = is
+in_all (Commands.ChartFront form) status is = is
 in_all (Commands.Scenario form) status is = longer (0 ∷ 3 ∷ []) (6 ∷ 10 ∷ 11 ∷ 12 ∷ []) status is
 in_all (Commands.Made n) status is = longer (0 ∷ []) (3 ∷ 6 ∷ 10 ∷ 11 ∷ 12 ∷ []) status is
 in_all Commands.Expanded status is = longer (0 ∷ 3 ∷ []) (6 ∷ 10 ∷ 11 ∷ 12 ∷ []) status is

@@ -1,5 +1,5 @@
 -- What is told of a step script with no report behind it, by what `am2 step` makes of it.
-use Rattle.std.proofs.Common.{◌≡◌, ◌⊎◌, inl, inr, ℕ, Bool, List, ◌++◌, Result, Ok, Err}
+use Rattle.std.proofs.Common.{◌≡◌, inl, inr, ℕ, Bool, List, ◌++◌, Result, Ok, Err}
 use Rattle.am_main_lines.specs.Lines.{Answer, full_line}
 use Rattle.am_main_step.specs.Answer.{not_enabled_line}
 use Rattle.am_main_step.specs.Meaning.{TextMeansOf}

@@ -1,13 +1,17 @@
 -- What the program answers to what was asked for, and to the bytes that were read for it.
-use Rattle.std.specs.Prelude.{◌≡◌, ◌≢◌, ◌⊎◌, ℕ, Bool, true, false, List, [], ◌∷◌, codes, Option, Some, None}
+use Rattle.std.specs.Prelude.{◌≡◌, ◌≢◌, ◌⊎◌, ℕ, Bool, true, false, List, [], ◌∷◌, ◌++◌, codes, Option, Some, None, Err}
 use Rattle.std.specs.Fmt.{decimal}
+use Rattle.am_check.specs.Cut.{place_of}
+use Rattle.am_check.specs.Verdict.{Checks}
+use Rattle.am_check.specs.declared.faults.CheckStop.TheVariants as Stops
+use Rattle.am_check.specs.declared.faults.CheckWhat.{CheckWhat}
 use Rattle.am_io.specs.Causes.{Counter}
 use Rattle.am_main_answer.specs.Answers.{IsDueOffered, IsDueTaken, IsDueTo, statuses_of}
 use Rattle.am_main_step.specs.Checks.{CheckAnswers}
 use Rattle.am_main_lines.specs.Lines.{Answer}
 use Rattle.am_names.specs.declared.EndpointId.{EndpointId}
 use Rattle.am_office_text.specs.Words.{line}
-use Rattle.am_lab.specs.Cuts.{cut_report, full_line_of}
+use Rattle.am_lab.specs.Cuts.{cut_report, full_before, full_line_of, without_line}
 use Rattle.am_lab.specs.Explains.{Explains}
 use Rattle.am_names.specs.declared.Serial.{Serial}
 use Rattle.am_scenario.specs.Grammar.{grammar}
@@ -16,12 +20,14 @@ use Rattle.am_scenario_types.specs.declared.parts.Form.TheVariants as Forms
 use Rattle.am_segment.specs.Spelling.{segment_grammar}
 use Rattle.am_lab_drawings.specs.Charts.{ChartAnswers}
 use Rattle.am_lab_drawings.specs.Messages.{ChartsMessage}
+use Rattle.am_lab_drawings.specs.Fronts.{ChartFrontAnswers}
 use Rattle.am_lab_drawings.specs.declared.view.parts.LineRange.{LineRange}
 use Rattle.am_lab_words.specs.declared.Lines.{Lines}
 use Rattle.am_lab_page.specs.Json.Answers.{JsonAnswers}
 use Rattle.am_lab_page.specs.Page.Pages.{PageAnswers}
 use Rattle.am_lab_scenarios.specs.Derived.Answers.{ExpandedAnswers, FaultsAnswers, PrintsScenario, RoundAnswers}
 use Rattle.am_scenario_generator.specs.Scenarios.{generated}
+use Rattle.am_lab_reasons.specs.Before.{TellsBefore, has_front}
 use Rattle.am_lab_reasons.specs.Reasons.{IsDeclared, TellsReasons}
 use Rattle.am_lab_schedules.specs.Finds.{FindAnswers}
 use Rattle.am_lab_schedules.specs.Schedules.{SchedulesAnswers}
@@ -81,6 +87,59 @@ pub record MessageChartAnswers (form : Form) (bytes : List ℕ) (serial : Serial
   pub checks : CheckAnswers form bytes checked
   pub more : ((checked.status ≢ 0) × (answer ≡ checked)) ⊎ (LacksEndpoint form bytes serial checked answer ⊎ DrawsMessage form bytes serial checked answer)
 
+-- behind what `check` answers to a report with a fault stands what became of a message in the journal in front of that
+pub record TellsFront (form : Form) (bytes : List ℕ) (serial : Serial) (number : ℕ) (what : CheckWhat) (checked answer : Answer) : Type 0 where
+  pub out : List ℕ
+  pub tells : TellsBefore form bytes number what serial out
+  pub answer' : answer ≡ record { status = checked.status; text = checked.text ++ out }
+
+-- so it is, if a journal might stand there
+abbrev pub TellsIf : Bool → Form → List ℕ → Serial → (number : ℕ) → CheckWhat → (checked answer : Answer) → Type 0
+TellsIf true form bytes serial number what checked answer = TellsFront form bytes serial number what checked answer
+TellsIf false form bytes serial number what checked answer = answer ≡ checked
+
+-- a line of the report has a fault, as the checker says, and what became of the message in front of it is told
+pub record TellsFault (form : Form) (bytes : List ℕ) (serial : Serial) (checked answer : Answer) : Type 0 where
+  pub number : ℕ
+  pub what : CheckWhat
+  pub verdict : Checks form bytes (Err (Stops.Fault number what))
+  pub told : TellsIf (has_front number what) form bytes serial number what checked answer
+
+-- the answer is that of `why`, but where the report has a fault behind lines of a journal, behind what `check` answers stands what became of
+-- the message in these
+pub record TellsUpTo (form : Form) (serial : Serial) (bytes : List ℕ) (answer : Answer) : Type 0 where
+  pub checked : Answer
+  pub checks : CheckAnswers form bytes checked
+  pub more : ((checked.status ≢ 10) × TellsWhy form bytes serial answer) ⊎ TellsFault form bytes serial checked answer
+
+-- the line of a full log is told, and behind it the same of the text without that line
+pub record TellsCut (form : Form) (serial : Serial) (line text : List ℕ) (answer : Answer) : Type 0 where
+  pub told : Answer
+  pub tells : TellsUpTo form serial text told
+  pub answer' : answer ≡ record { status = 6; text = line ++ codes "\n" ++ told.text }
+
+abbrev pub TellsFrontBy : Option (List ℕ) → Form → Serial → List ℕ → Answer → Type 0
+TellsFrontBy None form serial bytes answer = TellsUpTo form serial bytes answer
+TellsFrontBy (Some line) form serial bytes answer = TellsCut form serial line (without_line bytes line (place_of bytes)) answer
+
+-- THE HEADLINE, for `why --front`: what is told of a message of a report that may have a fault, or a full log's line in front
+abbrev pub TellsWhyFront : Form → Serial → List ℕ → Answer → Type 0
+TellsWhyFront form serial bytes answer = TellsFrontBy (full_before bytes (place_of bytes)) form serial bytes answer
+
+-- the text without the line of a full log is drawn, with that line in the last row
+pub record DrawsCut (form : Form) (line text : List ℕ) (answer : Answer) : Type 0 where
+  pub drawn : Answer
+  pub draws : ChartFrontAnswers form (line ++ codes ", ") text drawn
+  pub answer' : answer ≡ record { status = 6; text = drawn.text }
+
+abbrev pub DrawsFrontBy : Option (List ℕ) → Form → List ℕ → Answer → Type 0
+DrawsFrontBy None form bytes answer = ChartFrontAnswers form [] bytes answer
+DrawsFrontBy (Some line) form bytes answer = DrawsCut form line (without_line bytes line (place_of bytes)) answer
+
+-- THE HEADLINE, for `chart --front`: what is drawn of a report that may have a fault, or a full log's line in front
+abbrev pub DrawsChartFront : Form → List ℕ → Answer → Type 0
+DrawsChartFront form bytes answer = DrawsFrontBy (full_before bytes (place_of bytes)) form bytes answer
+
 -- the part of a report that the words name
 abbrev pub part_of : Option Lines → Option LineRange
 part_of None = None
@@ -105,8 +164,10 @@ unfoldable pub AnswersTo : Asked → (given bytes : List ℕ) → Answer → Typ
 AnswersTo (Commands.Explain form) given bytes answer = Explains false form bytes answer
 AnswersTo Commands.Front given bytes answer = Explains true Forms.Step bytes answer
 AnswersTo (Commands.Why form serial) given bytes answer = TellsWhy form bytes serial answer
+AnswersTo (Commands.WhyFront form serial) given bytes answer = TellsWhyFront form serial bytes answer
 AnswersTo (Commands.Chart form lines) given bytes answer = ChartAnswers form bytes (part_of lines) answer
 AnswersTo (Commands.ChartMessage form serial) given bytes answer = MessageChartAnswers form bytes serial answer
+AnswersTo (Commands.ChartFront form) given bytes answer = DrawsChartFront form bytes answer
 AnswersTo (Commands.Scenario form) given bytes answer = ScenarioAnswers form bytes answer
 AnswersTo (Commands.Made n) given bytes answer = PrintsScenario (generated n) answer
 AnswersTo Commands.Expanded given bytes answer = ExpandedAnswers (segment_grammar bytes) answer
@@ -141,8 +202,10 @@ unfoldable pub own_statuses : Asked → List ℕ
 own_statuses (Commands.Explain form) = 0 ∷ 3 ∷ 6 ∷ 10 ∷ []
 own_statuses Commands.Front = 0 ∷ 3 ∷ 6 ∷ 10 ∷ []
 own_statuses (Commands.Why form serial) = 0 ∷ 3 ∷ 6 ∷ 10 ∷ 12 ∷ []
+own_statuses (Commands.WhyFront form serial) = 0 ∷ 3 ∷ 6 ∷ 10 ∷ 12 ∷ []
 own_statuses (Commands.Chart form lines) = 0 ∷ 3 ∷ 6 ∷ 10 ∷ 11 ∷ 12 ∷ []
 own_statuses (Commands.ChartMessage form serial) = 0 ∷ 3 ∷ 6 ∷ 10 ∷ 11 ∷ 12 ∷ []
+own_statuses (Commands.ChartFront form) = 0 ∷ 3 ∷ 6 ∷ 10 ∷ 11 ∷ 12 ∷ []
 own_statuses (Commands.Scenario form) = 0 ∷ 3 ∷ []
 own_statuses (Commands.Made n) = 0 ∷ []
 own_statuses Commands.Expanded = 0 ∷ 3 ∷ []

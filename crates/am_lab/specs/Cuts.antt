@@ -1,5 +1,5 @@
 -- A report of a run that met a full log: the line that tells it stands in front of the report.
-use Rattle.std.specs.Prelude.{ℕ, Bool, true, false, nat_eq, Option, Some, None, List, [], ◌∷◌, ◌++◌, codes, take, if◌then◌else◌}
+use Rattle.std.specs.Prelude.{ℕ, ◌+◌, ◌-◌, Bool, true, false, nat_eq, Option, Some, None, List, [], ◌∷◌, ◌++◌, codes, drop, length, take, if◌then◌else◌}
 use Rattle.std.specs.List.{starts_with}
 use Rattle.am_check.specs.Cut.{place_of}
 use Rattle.am_lexer.specs.Text.{lines_of}
@@ -25,13 +25,20 @@ abbrev pub full_before : List ℕ → Option ℕ → Option (List ℕ)
 full_before text None = None
 full_before text (Some place) = full_in (last_line (take place text))
 
--- a command that reads a report behind its scenario
+-- the bytes of a text without this line in front of its report, which begins at a place
+abbrev pub without_line : (text line : List ℕ) → Option ℕ → List ℕ
+without_line text line None = text
+without_line text line (Some place) = take (place - (length line + 1)) text ++ drop place text
+
+-- a command that reads a report behind its scenario, and tells nothing of one with the line of a full log in front
 abbrev pub reads_report : Asked → Bool
 reads_report (Commands.Explain form) = true
 reads_report Commands.Front = true
 reads_report (Commands.Why form serial) = true
+reads_report (Commands.WhyFront form serial) = false
 reads_report (Commands.Chart form lines) = true
 reads_report (Commands.ChartMessage form serial) = true
+reads_report (Commands.ChartFront form) = false
 reads_report (Commands.Scenario form) = false
 reads_report (Commands.Made n) = false
 reads_report Commands.Expanded = false

@@ -16,6 +16,7 @@ ghost use Rattle.std.specs.Prelude.{◌≡◌, ◌<◌, ◌^◌, IfOk, false, le
 use crate::charts::drawn_message;
 use crate::cuts::{cut_report, full_line_of};
 use crate::explains::explained;
+use crate::fronts::{chart_front, why_front};
 use am_check::laws::yes_is_true;
 use am_lab_drawings::chart_output;
 use am_lab_drawings::view::LineRange;
@@ -100,6 +101,7 @@ fn message_output(
     requires right { checked.now.status ≡ 0 }
     ensures { IfOk result (λ o. TellsWhy form bytes.now serial (answer_in o)) }
 {
+    yes_is_true();
     let declared = is_declared(alloc, form, bytes, serial.source)?;
     if declared {
         message_told(alloc, form, bytes, serial, checked)
@@ -108,17 +110,32 @@ fn message_output(
     }
 }
 
-// What `check` answers, but of a right report what became of a message.
+/// What `check` answers, but of a right report what became of a message.
 #[tactic(auto, using(crate::proofs::Saying::tells_other))]
+pub(crate) fn told_by(
+    alloc: Global,
+    form: Form,
+    bytes: &[u8],
+    serial: Serial,
+    checked: Output,
+) -> Result<Output, NoMemory>
+    requires few { length bytes.now < 2 ^ 31 }
+    requires checks { CheckAnswers form bytes.now (answer_in checked) }
+    ensures { IfOk result (λ o. TellsWhy form bytes.now serial (answer_in o)) }
+{
+    if checked.status != 0 {
+        return Ok(checked);
+    }
+    message_output(alloc, form, bytes, serial, &checked)
+}
+
+// What is told of a message of a report.
 fn told_why(alloc: Global, form: Form, bytes: &[u8], serial: Serial) -> Result<Output, NoMemory>
     requires { length bytes.now < 2 ^ 31 }
     ensures { IfOk result (λ o. TellsWhy form bytes.now serial (answer_in o)) }
 {
     let output = check_output(alloc, form, bytes)?;
-    if output.status != 0 {
-        return Ok(output);
-    }
-    message_output(alloc, form, bytes, serial, &output)
+    told_by(alloc, form, bytes, serial, output)
 }
 
 // The report of a run by a seed.
@@ -224,8 +241,10 @@ fn answered_uncut(
         Asked::Explain(form) => explained(alloc, false, form, bytes),
         Asked::Front => explained(alloc, true, Form::Step, bytes),
         Asked::Why { form, serial } => told_why(alloc, form, bytes, serial),
+        Asked::WhyFront { form, serial } => why_front(alloc, form, bytes, serial),
         Asked::Chart { form, part } => chart_output(alloc, form, bytes, part_of(part)),
         Asked::ChartMessage { form, serial } => drawn_message(alloc, form, bytes, serial),
+        Asked::ChartFront(form) => chart_front(alloc, form, bytes),
         Asked::Scenario(form) => scenario_output(alloc, form, bytes),
         Asked::Made(n) => made_scenario(alloc, n),
         Asked::Expanded => expanded_scenario(alloc, bytes),

@@ -1,9 +1,9 @@
 //! A report of a run that met a full log.
 
 ghost use Rattle.am_check.specs.Cut as places;
-ghost use Rattle.am_lab.specs.Cuts.{cut_report, full_before, full_in, full_line_of, last_line, reads_report};
+ghost use Rattle.am_lab.specs.Cuts.{cut_report, full_before, full_in, full_line_of, last_line, reads_report, without_line};
 ghost use Rattle.am_main_lines.specs.Lines.{answer_in};
-ghost use Rattle.std.specs.Prelude.{◌≡◌, IfOk, option_map};
+ghost use Rattle.std.specs.Prelude.{◌≡◌, ◌≤◌, IfOk, Some, length, option_map};
 
 use am_check::place_of;
 use am_lab_words::Asked;
@@ -37,7 +37,7 @@ fn full_in(line: &[u8]) -> Option<&[u8]>
     }
 }
 
-// Whether a command reads a report behind its scenario.
+// Whether a command reads a report behind its scenario, and tells nothing of one with the line of a full log in front.
 fn reads_report(asked: Asked) -> bool
     ensures { result ≡ reads_report asked }
 {
@@ -52,7 +52,9 @@ fn reads_report(asked: Asked) -> bool
         | Asked::Shiviz(_)
         | Asked::Page(_)
         | Asked::State { .. } => true,
-        Asked::Scenario(_)
+        Asked::WhyFront { .. }
+        | Asked::ChartFront(_)
+        | Asked::Scenario(_)
         | Asked::Made(_)
         | Asked::Expanded
         | Asked::Round { .. }
@@ -66,13 +68,34 @@ fn reads_report(asked: Asked) -> bool
     }
 }
 
-// The line in front of a report, where it tells a full log.
-fn full_before(text: &[u8]) -> Option<&[u8]>
+/// The line in front of a report, where it tells a full log.
+pub(crate) fn full_before(text: &[u8]) -> Option<&[u8]>
     ensures { option_map (λ line. line.now) result ≡ full_before text.now (places.place_of text.now) }
 {
     match place_of(text) {
         Some(place) => full_in(last_line(&text[..place])),
         None => None,
+    }
+}
+
+// The bytes of a text without a line in front of its report, which begins at this place.
+fn cut_out(alloc: Global, text: &[u8], place: usize, line: &[u8]) -> Result<Vec<u8>, AllocError>
+    requires { place ≤ length text.now }
+    ensures { IfOk result (λ left. left.items ≡ without_line text.now line.now (Some place)) }
+{
+    let mut left = Vec::from_slice(alloc, &text[..place.saturating_sub(line.len() + 1)])?;
+    left.extend_from_slice(&text[place..])?;
+    Ok(left)
+}
+
+/// The bytes of a text without this line in front of its report.
+pub(crate) fn without_line(alloc: Global, text: &[u8], line: &[u8]) -> Result<Vec<u8>, AllocError>
+    ensures exact { IfOk result (λ left. left.items ≡ without_line text.now line.now (places.place_of text.now)) }
+    ensures short { IfOk result (λ left. length left.items ≤ length text.now) }
+{
+    match place_of(text) {
+        Some(place) => cut_out(alloc, text, place, line),
+        None => Vec::from_slice(alloc, text),
     }
 }
 

@@ -24,8 +24,8 @@ use am_office_text::{count, put_line};
 use am_scenario::{Form, ReadFault, ScenarioFault, read};
 use std::alloc::{AllocError, Global};
 
-// An answer with more text behind it.
-fn followed(mut output: Output, more: &[u8]) -> Result<Output, AllocError>
+/// An answer with more text behind it.
+pub(crate) fn followed(mut output: Output, more: &[u8]) -> Result<Output, AllocError>
     ensures { IfOk result (λ o. answer_in o ≡ record { status = output.status; text = output.text.items ++ more.now }) }
 {
     output.text.extend_from_slice(more)?;

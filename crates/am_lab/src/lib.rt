@@ -5,6 +5,7 @@ mod answers;
 mod charts;
 mod cuts;
 mod explains;
+mod fronts;
 mod laws;
 mod requests;
 mod top;

@@ -1,7 +1,6 @@
 -- What is told of a right report of a run.
-use Rattle.std.proofs.Common.{◌≡◌, ◌≢◌, ℕ, ◌<◌, ◌≤◌, List, take, drop, length, Option, Some, Result, Ok, Err, inl, inr, refl, sym, ap, ◌∙◌, subst}
+use Rattle.std.proofs.Common.{◌≡◌, ◌≢◌, ℕ, ◌<◌, ◌≤◌, List, drop, length, Result, Ok, Err, inl, inr, refl, sym, ap, ◌∙◌, subst}
 use Rattle.std.specs.Prelude.{IfOk}
-use Rattle.am_check.specs.Cut.{place_of}
 use Rattle.am_check.specs.Follows.{ids_of}
 use Rattle.am_check.specs.Verdict.{IsReportOf}
 use Rattle.am_check.proofs.Returning.{begun_by}
@@ -11,11 +10,11 @@ use Rattle.am_main_lines.specs.declared.outputs.Output.{Output}
 use Rattle.am_main_lines.specs.Lines.{Answer, answer_in}
 use Rattle.am_office_entries.specs.declared.Entry.{Entry}
 use Rattle.am_office_report.specs.Report.{report}
-use Rattle.am_scenario.specs.Grammar.{grammar}
 use Rattle.am_scenario_types.specs.declared.parts.Form.TheVariants.{Run}
 use Rattle.am_scenario_types.specs.Lawful.{IsLawful}
 use Rattle.am_scenario_types.specs.Lists.{ScenarioLists}
-use Rattle.am_lab_reasons.proofs.Reported.{same_scenario}
+use Rattle.am_lab_reasons.proofs.Parted.{place_in, scenario_in}
+use Rattle.am_lab_reasons.specs.Parts.{HasParts, HasReport}
 use Rattle.am_lab_scenarios.specs.Replays.Laws.{ReplaysAreTheRun, replay_of}
 use Rattle.am_lab_scenarios.specs.Texts.Replays.{IsReportOfRun, ReplayAnswers, TellsRun, journal_too_long}
 
@@ -40,34 +39,27 @@ checked_report s bytes journal r =
     let passes = begun_by Run s journal r.history in
     record { journal = journal; begun = passes.0; ended = passes.1; text = r.report' }
 
-one_place : (a b : ℕ) (o : Option ℕ) → o ≡ Some a → o ≡ Some b → a ≡ b
-one_place a b o e f = cc
+-- a right report stands behind its scenario
+abbrev pub has_report : (text : List ℕ) → IsTrueReport Run text → HasReport Run text
+has_report text r = record { place = r.place; place' = r.place'; scenario = r.scenario; spelled = r.spelled }
 
--- the scenario that is read is that of the report
-scenario_is : (text : List ℕ) (place : ℕ) (s : ScenarioLists) (r : IsTrueReport Run text) → place_of text ≡ Some place → grammar Run (take place text) ≡ Ok s →
-    r.scenario ≡ s
-scenario_is text place s r at spelled =
-    let e : r.place ≡ place = one_place r.place place (place_of text) r.place' at in
-    same_scenario r.scenario s (grammar Run (take place text)) (subst (λ (p : ℕ). grammar Run (take p text) ≡ Ok r.scenario) e r.spelled) spelled
-
--- and its report stands behind it
-pub report_is : (text : List ℕ) (place : ℕ) (bytes : List ℕ) (s : ScenarioLists) (r : IsTrueReport Run text) → place_of text ≡ Some place →
-    bytes ≡ drop place text → grammar Run (take place text) ≡ Ok s → IsReportOfRun s bytes r.journal
-report_is text place bytes s r at behind spelled =
-    let e : r.place ≡ place = one_place r.place place (place_of text) r.place' at in
-    let same = scenario_is text place s r at spelled in
+-- the report that was cut off is that of the journal
+pub report_is : (text : List ℕ) (s : ScenarioLists) (bytes : List ℕ) (r : IsTrueReport Run text) → HasParts Run text s bytes → IsReportOfRun s bytes r.journal
+report_is text s bytes r p =
+    let h = has_report text r in
+    let same = scenario_in Run text h s bytes p in
     record {
       history = subst (λ (z : ScenarioLists). IsRunHistory z r.journal) same r.history;
-      report' = behind ∙ ap (λ (p : ℕ). drop p text) (sym e) ∙ r.report' ∙ ap (λ (z : ScenarioLists). report (ids_of z) r.journal) same;
+      report' = p.report' ∙ ap (λ (n : ℕ). drop n text) (sym (place_in Run text h s bytes p)) ∙ r.report'
+          ∙ ap (λ (z : ScenarioLists). report (ids_of z) r.journal) same;
     }
 
-pub told_of_text : {E : Type 0} (text : List ℕ) (place : ℕ) (bytes : List ℕ) (s : ScenarioLists) (result : Result Output E) → place_of text ≡ Some place →
-    bytes ≡ drop place text → grammar Run (take place text) ≡ Ok s → ((journal : List Entry) → IsReportOfRun s bytes journal →
-    IfOk result (λ (o : Output). TellsRun s journal (answer_in o))) → (r : IsTrueReport Run text) →
-    IfOk result (λ (o : Output). TellsRun r.scenario r.journal (answer_in o))
-told_of_text text place bytes s result at behind spelled told r =
-    subst (λ (z : ScenarioLists). IfOk result (λ (o : Output). TellsRun z r.journal (answer_in o))) (sym (scenario_is text place s r at spelled))
-    (told r.journal (report_is text place bytes s r at behind spelled))
+pub told_of_text : {E : Type 0} (text : List ℕ) (s : ScenarioLists) (bytes : List ℕ) (result : Result Output E) → HasParts Run text s bytes →
+    ((journal : List Entry) → IsReportOfRun s bytes journal → IfOk result (λ (o : Output). TellsRun s journal (answer_in o))) →
+    (r : IsTrueReport Run text) → IfOk result (λ (o : Output). TellsRun r.scenario r.journal (answer_in o))
+told_of_text text s bytes result p told r =
+    subst (λ (z : ScenarioLists). IfOk result (λ (o : Output). TellsRun z r.journal (answer_in o))) (sym (scenario_in Run text (has_report text r) s bytes p))
+    (told r.journal (report_is text s bytes r p))
 
 -- ---- the answer
 

@@ -11,14 +11,14 @@ ghost use Rattle.std.specs.Prelude.{◌≡◌, ◌≤◌, ◌<◌, ◌^◌, IfOk
 
 use crate::replays::replays_are_the_run;
 use crate::spelling::replay_text;
-use am_check::place_of;
 use am_lab_reasons::journal::reach_end;
+use am_lab_reasons::parts_of;
 use am_machine::Cluster;
 use am_main_lines::Output;
 use am_main_step::check_output;
 use am_names::NoMemory;
 use am_office_entries::Journal;
-use am_scenario::{Form, Scenario, read};
+use am_scenario::{Form, Scenario};
 use std::alloc::Global;
 
 fn too_long(alloc: Global) -> Result<Output, NoMemory>
@@ -74,13 +74,8 @@ fn told_text(alloc: Global, text: &[u8]) -> Result<Output, NoMemory>
     requires right { IsTrueReport Run text.now }
     ensures { (r : IsTrueReport Run text.now) → IfOk result (λ o. TellsRun r.scenario r.journal (answer_in o)) }
 {
-    let Some(place) = place_of(text) else {
-        return Err(NoMemory);
-    };
-    match read(alloc, Form::Run, &text[..place]) {
-        Ok(scenario) => told_report(alloc, &scenario, &text[place..]),
-        Err(_) => Err(NoMemory),
-    }
+    let (scenario, bytes) = parts_of(alloc, Form::Run, text)?;
+    told_report(alloc, &scenario, bytes)
 }
 
 // What is told of a text to which `check` says yes.
