@@ -1,19 +1,17 @@
 -- A round's scenario is lawful.
-use Rattle.std.proofs.Common.{◌≡◌, ◌≢◌, ℕ, zero, suc, ◌+◌, ◌*◌, ◌/◌, ◌%◌, ◌<◌, ◌≤◌, Bool, true, false, List, [], ◌∷◌, ◌++◌, length, drop, Option, Some, None}
-use Rattle.std.proofs.Common.{refl, sym, ap, ◌∙◌, subst, ⊎_elim, arith, length-append, add-one}
-use Rattle.std.specs.Prelude.{◌==◌, find, count_by, if◌then◌else◌, IsSome}
-use Rattle.std.specs.List.{All, AllPairs}
-use Rattle.std.specs.Option.{option_map, option_or}
+use Rattle.std.proofs.Common.{◌≡◌, ◌≢◌, ℕ, zero, suc, ◌+◌, ◌*◌, ◌/◌, ◌%◌, ◌<◌, ◌≤◌, Bool, true, false, List, [], ◌∷◌, ◌++◌, length, drop, Option, Some}
+use Rattle.std.proofs.Common.{refl, sym, ap, ◌∙◌, subst, arith, length-append, add-one}
+use Rattle.std.specs.Prelude.{◌==◌, count_by, if◌then◌else◌, IsSome}
+use Rattle.std.specs.List.{All}
+use Rattle.std.specs.Option.{option_map}
 use Rattle.std.proofs.Math.Nat.{mul-le-mul_left}
-use Rattle.std.proofs.lemmas.Bool.{cases_lt, eqb-true, eq-eqb}
+use Rattle.std.proofs.lemmas.Bool.{eqb-true}
 use Rattle.std.proofs.lemmas.List.{length_push, length-take}
-use Rattle.std.proofs.lemmas.List.Elements.{All-nil, All-cons, All-head, All-tail, All-push, All-append, All-weaker, All-take, All-drop}
-use Rattle.std.proofs.lemmas.List.Folds.{find-append}
+use Rattle.std.proofs.lemmas.List.Elements.{All-nil, All-take, All-drop}
 use Rattle.std.proofs.lemmas.List.Sums.{sum_by_push, count_by-le-length}
 use Rattle.std.proofs.lemmas.List.FromFn.{length-map-range_with_len}
 use Rattle.am_lemmas.proofs.Numbers.{eqb_less}
-use Rattle.am_lemmas.proofs.Lists.{all_pairs_none, all_pairs_grow}
-use Rattle.am_lemmas.proofs.Options.{option_map-option_or}
+use Rattle.am_lemmas.proofs.Lists.{all_pairs_none}
 use Rattle.am_lemmas.proofs.Numbered.{lines_more, lines_all, keys_rise, key_finds}
 use Rattle.am_names.specs.declared.EndpointId.{EndpointId}
 use Rattle.am_names.specs.declared.NodeId.{NodeId}
@@ -34,9 +32,7 @@ use Rattle.am_job.specs.Words.Codes.{Fits}
 use Rattle.am_job.specs.Scripts.{map_to, maps_below, on_owner, on_sender, opening, openings_below, owner, polls, script, sending, sendings}
 use Rattle.am_job.specs.Rounds.{end_line, round_at, round_size, round_words, scenario, thread_line}
 use Rattle.am_job.proofs.Below.{ends_below, threads_below}
-use Rattle.am_scenario_generator.specs.Calls.{call_on}
-
--- ---- tests and lists
+use Rattle.am_job.proofs.Each.{each_call}
 
 -- ---- endpoints and threads
 
@@ -97,19 +93,23 @@ abbrev pub IsMade : ℕ → ScriptCall → Type 0
 IsMade w made = IsLawfulScriptCall (ends_below (2 * w)) (threads_below w) 1 made
 
 -- a thread's lawful call on an endpoint of its node
-a_call : (w n end : ℕ) (call : Call) → n < w → end / 2 ≡ n → end < 2 * w → IsLawfulCall (ends_below (2 * w)) 1 call → IsMade w (call_on n end call)
-a_call w n end call t same e lawful =
-    let on : IsOn (ends_below (2 * w)) (record { 0 = end / 2 }) (record { 0 = end }) = end_there (record { 0 = end }) (2 * w) e in
+a_call : (w : ℕ) (made : ScriptCall) → made.thread < w → made.endpoint.0 / 2 ≡ made.thread → made.endpoint.0 < 2 * w →
+    IsLawfulCall (ends_below (2 * w)) 1 made.call → IsMade w made
+a_call w made t same e lawful =
+    let on : IsOn (ends_below (2 * w)) (record { 0 = made.endpoint.0 / 2 }) made.endpoint = end_there made.endpoint (2 * w) e in
     record {
-      placed = (record { 0 = n }, (thread_there n w t, subst (λ (k : ℕ). IsOn (ends_below (2 * w)) (record { 0 = k }) (record { 0 = end })) same on));
+      placed = (
+        record { 0 = made.thread },
+        (thread_there made.thread w t, subst (λ (k : ℕ). IsOn (ends_below (2 * w)) (record { 0 = k }) made.endpoint) same on),
+      );
       call = lawful;
     }
 
 owners_call : (w n : ℕ) (call : Call) → n < w → IsLawfulCall (ends_below (2 * w)) 1 call → IsMade w (on_owner n call)
-owners_call w n call t lawful = a_call w n (2 * n + 1) call t (omega arith) (omega arith) lawful
+owners_call w n call t lawful = a_call w (on_owner n call) t (omega arith) (omega arith) lawful
 
 senders_call : (w n : ℕ) (call : Call) → n < w → IsLawfulCall (ends_below (2 * w)) 1 call → IsMade w (on_sender n call)
-senders_call w n call t lawful = a_call w n (2 * n) call t (omega arith) (omega arith) lawful
+senders_call w n call t lawful = a_call w (on_sender n call) t (omega arith) (omega arith) lawful
 
 is_declared : (w name : ℕ) → name < 2 * w → IsDeclared (ends_below (2 * w)) (record { 0 = name })
 is_declared w name small = subst (λ (o : Option NodeId). IsSome o) (sym (end_there (record { 0 = name }) (2 * w) small)) refl
@@ -117,62 +117,20 @@ is_declared w name small = subst (λ (o : Option NodeId). IsSome o) (sym (end_th
 a_map : (w k : ℕ) → w ≤ 8 → k < w → IsLawfulCall (ends_below (2 * w)) 1 (map_to k)
 a_map w k few below = (omega arith, is_declared w (2 * k + 1) (omega arith), omega arith, (omega arith, omega arith))
 
-some_maps : (w n k : ℕ) → w ≤ 8 → n < w → k ≤ w → All (IsMade w) (maps_below n k)
-unfolding maps_below
-some_maps w n zero few t within = All-nil (IsMade w)
-some_maps w n (suc k) few t within =
-    All-push (IsMade w) (maps_below n k) (on_sender n (map_to k)) (some_maps w n k few t (omega arith))
-    (senders_call w n (map_to k) t (a_map w k few (omega arith)))
-
-an_opening : (w n : ℕ) → w ≤ 8 → n < w → All (IsMade w) (opening w n)
-unfolding opening
-an_opening w n few t =
-    All-cons (IsMade w) (on_owner n (SetHandler 1 Note)) (maps_below n w) (owners_call w n (SetHandler 1 Note) t (omega arith, tt))
-    (some_maps w n w few t (omega arith))
-
-all_openings : (w n : ℕ) → w ≤ 8 → n ≤ w → All (IsMade w) (openings_below w n)
-unfolding openings_below
-all_openings w zero few within = All-nil (IsMade w)
-all_openings w (suc n) few within = All-append (IsMade w) (openings_below w n) (opening w n) (all_openings w n few (omega arith))
-    (an_opening w n few (omega arith))
-
-some_polls : (w n times : ℕ) → n < w → All (IsMade w) (polls n times)
-unfolding polls
-some_polls w n zero t = All-nil (IsMade w)
-some_polls w n (suc times) t = All-push (IsMade w) (polls n times) (on_owner n Poll) (some_polls w n times t) (owners_call w n Poll t tt)
-
 owner_small : (w : ℕ) (word : CodedWord) → 0 < w → owner w word < w
 owner_small w word some = omega arith
 
 a_request : (w : ℕ) (word : CodedWord) → 0 < w → w ≤ 8 → Fits word → IsLawfulCall (ends_below (2 * w)) 1 (Request (owner w word) 1 word.words)
 a_request w word some few fits = (omega (arith, owner_small w word some), omega arith, fits)
 
-a_sending : (w n : ℕ) (word : CodedWord) → 0 < w → w ≤ 8 → n < w → Fits word → All (IsMade w) (sending w n word)
-unfolding sending
-a_sending w n word some few t fits =
-    let first : ScriptCall = on_sender n (Request (owner w word) 1 word.words) in
-    let last : ScriptCall = on_sender n Poll in
-    All-append (IsMade w) (first ∷ [] ++ polls n w) (last ∷ [])
-    (All-append (IsMade w) (first ∷ []) (polls n w)
-    (All-cons (IsMade w) first [] (senders_call w n (Request (owner w word) 1 word.words) t (a_request w word some few fits)) (All-nil (IsMade w)))
-    (some_polls w n w t))
-    (All-cons (IsMade w) last [] (senders_call w n Poll t tt) (All-nil (IsMade w)))
-
-rest_small : (w j : ℕ) → 0 < w → j % w < w
-rest_small w j some = omega arith
-
-all_sendings : (w j : ℕ) (words : List CodedWord) → 0 < w → w ≤ 8 → All Fits words → All (IsMade w) (sendings w j words)
-unfolding sendings
-all_sendings w j [] some few fits = All-nil (IsMade w)
-all_sendings w j (word ∷ words) some few fits =
-    All-append (IsMade w) (sending w (j % w) word) (sendings w (j + 1) words)
-    (a_sending w (j % w) word some few (rest_small w j some) (All-head Fits word words fits))
-    (all_sendings w (j + 1) words some few (All-tail Fits word words fits))
-
 all_calls : (w : ℕ) (words : List CodedWord) → 0 < w → w ≤ 8 → All Fits words → All (IsMade w) (script w words)
-unfolding script
-all_calls w words some few fits = All-append (IsMade w) (openings_below w w) (sendings w 0 words) (all_openings w w few (omega arith))
-    (all_sendings w 0 words some few fits)
+all_calls w words some few fits = each_call w Fits (IsMade w) (record {
+  note = λ n t. owners_call w n (SetHandler 1 Note) t (omega arith, tt);
+  mapping = λ n k t below. senders_call w n (map_to k) t (a_map w k few below);
+  request = λ n word t own. senders_call w n (Request (owner w word) 1 word.words) t (a_request w word some few own);
+  owners_poll = λ n t. owners_call w n Poll t tt;
+  senders_poll = λ n t. senders_call w n Poll t tt;
+}) words some fits
 
 -- ---- numbers of calls
 

@@ -10,4 +10,5 @@ pub mod Told
 pub mod Counted
 pub mod Lines
 pub mod Declared
+pub mod Each
 pub mod Ends
