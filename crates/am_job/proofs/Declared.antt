@@ -8,7 +8,7 @@ use Rattle.am_job.specs.Rounds.{scenario}
 use Rattle.am_job.specs.Scripts.{script}
 use Rattle.am_job.proofs.Below.{threads_below}
 use Rattle.am_job.proofs.Each.{each_call}
-use Rattle.am_job.proofs.Lawfully.{thread_there}
+use Rattle.am_job.proofs.Ready.{thread_there}
 
 abbrev IsOf : ℕ → ScriptCall → Type 0
 IsOf w made = is_in (threads_below w) made.thread ≡ true
@@ -20,10 +20,10 @@ pub calls_of_round : (w turns : ℕ) (words : List CodedWord) → 0 < w → AreD
 unfolding scenario
 calls_of_round w turns words some =
     list_all-from_AllPass (λ (made : ScriptCall). is_in (threads_below w) made.thread) (script w words)
-    (each_call w (λ (word : CodedWord). Unit {0}) (IsOf w) (record {
+    (each_call w (IsOf w) (record {
       note = is_of w;
       mapping = λ n k less few. is_of w n less;
-      request = λ n word less own. is_of w n less;
+      request = λ n word less. is_of w n less;
       owners_poll = is_of w;
       senders_poll = is_of w;
-    }) words some (λ k d below. tt))
+    }) words some)

@@ -1,5 +1,6 @@
 pub mod Below
-pub mod Lawfully
+pub mod Sizes
+pub mod Ready
 pub mod More
 pub mod SentTexts
 pub mod Seen
