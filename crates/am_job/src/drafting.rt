@@ -12,8 +12,8 @@ use am_names::{NoMemory, NodeId, Tag};
 use am_scenario_types::ScriptCall;
 use std::alloc::Global;
 
-// What a draft refuses where nothing speaks against it.
-fn want(fault: DraftFault) -> NoMemory
+// The refusal of what nothing speaks against: memory is wanting.
+fn only_memory(fault: DraftFault) -> NoMemory
     requires { fault ≡ Faults.NoMemory }
 {
     match fault {
@@ -29,7 +29,7 @@ fn start(alloc: Global, w: u8) -> Result<Draft, NoMemory>
 {
     match Draft::new(alloc, w) {
         Ok(draft) => Ok(draft),
-        Err(fault) => Err(want(fault)),
+        Err(fault) => Err(only_memory(fault)),
     }
 }
 
@@ -39,7 +39,7 @@ fn set_turns(draft: &mut Draft, turns: u32) -> Result<(), NoMemory>
 {
     match draft.set(Setting::Turns(turns)) {
         Ok(()) => Ok(()),
-        Err(fault) => Err(want(fault)),
+        Err(fault) => Err(only_memory(fault)),
     }
 }
 
@@ -49,7 +49,7 @@ fn add_end(draft: &mut Draft, node: NodeId, tag: Tag) -> Result<(), NoMemory>
 {
     match draft.endpoint(node, tag) {
         Ok(_) => Ok(()),
-        Err(fault) => Err(want(fault)),
+        Err(fault) => Err(only_memory(fault)),
     }
 }
 
@@ -72,7 +72,7 @@ fn add_thread(draft: &mut Draft, node: NodeId) -> Result<(), NoMemory>
 {
     match draft.thread(node) {
         Ok(_) => Ok(()),
-        Err(fault) => Err(want(fault)),
+        Err(fault) => Err(only_memory(fault)),
     }
 }
 
@@ -90,7 +90,7 @@ fn declare_threads(draft: &mut Draft, w: u8) -> Result<(), NoMemory>
 }
 
 /// A round of so many nodes and turns before its threads call anything.
-pub fn open(alloc: Global, w: u8, turns: u32) -> Result<Draft, NoMemory>
+pub fn declare(alloc: Global, w: u8, turns: u32) -> Result<Draft, NoMemory>
     requires some { 0 < w }
     requires nodes { w ≤ 8 }
     requires turns { turns ≤ 10000 }
@@ -110,6 +110,6 @@ pub fn add(draft: &mut Draft, made: ScriptCall) -> Result<(), NoMemory>
 {
     match draft.call(made) {
         Ok(()) => Ok(()),
-        Err(fault) => Err(want(fault)),
+        Err(fault) => Err(only_memory(fault)),
     }
 }

@@ -6,7 +6,7 @@ ghost use Rattle.am_scenario_types.specs.declared.parts.Form.TheVariants.{Run};
 ghost use Rattle.am_scenario_types.specs.Lawful.{IsLawful, IsOfForm};
 ghost use Rattle.am_job.specs.Rounds.{IsJob, job_of, round_at, round_count, round_size, round_words, scenario};
 
-use crate::drafting::open;
+use crate::drafting::declare;
 use crate::script::make_script;
 use crate::words::{CodedWord, split};
 use am_names::NoMemory;
@@ -41,7 +41,7 @@ fn scenario(alloc: Global, w: u8, turns: u32, words: &[CodedWord]) -> Result<Sce
     ensures lawful { IfOk result IsLawful }
     ensures of_form { IfOk result (IsOfForm Run) }
 {
-    let mut draft = open(alloc, w, turns)?;
+    let mut draft = declare(alloc, w, turns)?;
     make_script(&mut draft, w, words)?;
     Ok(draft.finish())
 }

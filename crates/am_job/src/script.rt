@@ -1,6 +1,6 @@
 //! What the threads of a round call.
 
-ghost use Rattle.std.specs.Prelude.{[], ◌≡◌, ◌∷◌, ◌%◌, ◌<◌, ◌≤◌, OnOk};
+ghost use Rattle.std.specs.Prelude.{◌≡◌, ◌%◌, ◌<◌, ◌≤◌, OnOk};
 ghost use Rattle.am_office_entries.specs.declared.Call.TheVariants.{Request};
 ghost use Rattle.am_library_drafts.specs.Drafts.{with_calls};
 ghost use Rattle.am_job.specs.Ready.{IsReady};
@@ -148,7 +148,8 @@ fn send_all(draft: &mut Draft, w: u8, words: &[CodedWord]) -> Result<(), NoMemor
     Ok(())
 }
 
-/// The calls of a round of words, in order of the threads where they begin, and then of the words.
+/// The calls of a round of words, in order of the threads where they begin, and then of the words. NoMemory: the draft may have some of
+/// them.
 pub fn make_script(draft: &mut Draft, w: u8, words: &[CodedWord]) -> Result<(), NoMemory>
     requires some { 0 < w }
     requires nodes { w ≤ 8 }
