@@ -1,5 +1,5 @@
 -- In a round no word runs more often than it is sent; and each that is sent runs, or its request is refused, or its message is returned.
-use Rattle.std.proofs.Common.{◌≡◌, ℕ, ◌+◌, ◌<◌, ◌≤◌, Option, Some, None, List, refl, sym, ap, ◌∙◌, filter_map, arith}
+use Rattle.std.proofs.Common.{◌≡◌, ℕ, Option, Some, None, List, refl, sym, ap, ◌∙◌, filter_map, arith}
 use Rattle.std.specs.Prelude.{sum_by}
 use Rattle.std.specs.Option.{option_and_then}
 use Rattle.am_names.specs.declared.Serial.{Serial}
@@ -12,7 +12,6 @@ use Rattle.am_library_views.proofs.Ended.{requests_end, runs_few}
 use Rattle.am_library_views.proofs.Endwise.{none_lost}
 use Rattle.am_library_views.proofs.Ran.{words_run_each}
 use Rattle.am_library_views.proofs.Weights.{of, only, sum_listed, sum_same}
-use Rattle.am_job.specs.declared.words.codes.CodedWord.{CodedWord}
 use Rattle.am_job.specs.Words.Codes.{word_in}
 use Rattle.am_job.specs.Words.Counts.{same_word, times, words_run}
 use Rattle.am_job.specs.Asked.{words_asked}

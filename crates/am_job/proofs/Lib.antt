@@ -1,5 +1,6 @@
 pub mod Below
-pub mod Lawfully
+pub mod Sizes
+pub mod Ready
 pub mod More
 pub mod SentTexts
 pub mod Seen
@@ -10,4 +11,5 @@ pub mod Told
 pub mod Counted
 pub mod Lines
 pub mod Declared
+pub mod Each
 pub mod Ends

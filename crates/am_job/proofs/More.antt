@@ -4,15 +4,17 @@ use Rattle.std.proofs.Common.{add-one}
 use Rattle.std.specs.List.{range_with_len}
 use Rattle.std.proofs.lemmas.List.{drop_more, drop_all}
 use Rattle.std.proofs.lemmas.List.FromFn.{map-range_with_len_more}
-use Rattle.am_office_entries.specs.declared.Call.TheVariants.{Poll}
+use Rattle.am_office_entries.specs.declared.Call.TheVariants.{Request, Poll, SetHandler}
+use Rattle.am_office_entries.specs.declared.HandlerKind.TheVariants.{Note}
 use Rattle.am_scenario_types.specs.declared.parts.ScriptCall.{ScriptCall}
 use Rattle.am_job.specs.declared.words.codes.CodedWord.{CodedWord}
 use Rattle.am_scenario_types.specs.Lists.{ScenarioLists}
+use Rattle.am_library_drafts.specs.Drafts.{with_calls}
 use Rattle.am_job.specs.Words.Codes.{sent_words}
 use Rattle.am_job.specs.Words.Texts.{long_count}
 use Rattle.am_job.specs.Lists.{JobLists}
 use Rattle.am_job.specs.Rounds.{job_of, round_at, round_count, rounds_of}
-use Rattle.am_job.specs.Scripts.{map_to, maps_below, on_owner, on_sender, opening, openings_below, polls, sending, sendings}
+use Rattle.am_job.specs.Scripts.{map_to, maps_below, on_owner, on_sender, opening, openings_below, owner, polls, script, sending, sendings}
 
 pub maps_none : (n : ℕ) → maps_below n 0 ≡ []
 unfolding maps_below
@@ -38,19 +40,46 @@ pub polls_more : (n times : ℕ) → polls n (times + 1) ≡ polls n times ++ on
 unfolding polls
 polls_more n times = rw add-one refl
 
--- ---- a list that grows piece by piece
+-- ---- a draft that gets call by call
 
-pub none_grown : {A : Type 0} (start none : List A) → none ≡ [] → start ≡ start ++ none
-none_grown start none is = rw is (sym (append-nil start))
+-- the request of a word
+abbrev pub sent_by : ℕ → ℕ → CodedWord → ScriptCall
+sent_by w n word = on_sender n (Request (owner w word) 1 word.words)
 
-pub one_grown : {A : Type 0} (start was now piece before after : List A) → was ≡ start ++ before → now ≡ was ++ piece → after ≡ before ++ piece →
-    now ≡ start ++ after
-one_grown {A} start was now piece before after so_far push next =
-    push ∙ ap (λ (l : List A). l ++ piece) so_far ∙ append_assoc start before piece ∙ ap (λ (l : List A). start ++ l) (sym next)
+pub none_called : (start : ScenarioLists) (none : List ScriptCall) → none ≡ [] → start ≡ with_calls start none
+none_called start none is = λ i. record start { script = (sym (append-nil start.script) ∙ ap (λ (l : List ScriptCall). start.script ++ l) (sym is)) i }
+
+pub more_called : (start was now : ScenarioLists) (piece before after : List ScriptCall) → was ≡ with_calls start before → now ≡ with_calls was piece →
+    after ≡ before ++ piece → now ≡ with_calls start after
+more_called start was now piece before after so_far put next =
+    put
+    ∙ ap (λ (s : ScenarioLists). with_calls s piece) so_far
+    ∙ (λ i. record start { script = (append_assoc start.script before piece ∙ ap (λ (l : List ScriptCall). start.script ++ l) (sym next)) i })
+
+pub begun : (w n : ℕ) (start one two : ScenarioLists) → one ≡ with_calls start (on_owner n (SetHandler 1 Note) ∷ []) → two ≡ with_calls one (maps_below n w) →
+    two ≡ with_calls start (opening w n)
+unfolding opening
+begun w n start one two noted mapped = more_called start one two (maps_below n w) (on_owner n (SetHandler 1 Note) ∷ []) (opening w n) noted mapped refl
+
+pub polled : (w n : ℕ) (word : CodedWord) (start one two : ScenarioLists) → one ≡ with_calls start (sent_by w n word ∷ []) →
+    two ≡ with_calls one (polls n w) → two ≡ with_calls start (sent_by w n word ∷ [] ++ polls n w)
+polled w n word start one two sent polls' =
+    more_called start one two (polls n w) (sent_by w n word ∷ []) (sent_by w n word ∷ [] ++ polls n w) sent polls' refl
+
+pub sent : (w n : ℕ) (word : CodedWord) (start two three : ScenarioLists) → two ≡ with_calls start (sent_by w n word ∷ [] ++ polls n w) →
+    three ≡ with_calls two (on_sender n Poll ∷ []) → three ≡ with_calls start (sending w n word)
+unfolding sending
+sent w n word start two three before last =
+    more_called start two three (on_sender n Poll ∷ []) (sent_by w n word ∷ [] ++ polls n w) (sending w n word) before last refl
+
+pub scripted_all : (w : ℕ) (words : List CodedWord) (start one two : ScenarioLists) → one ≡ with_calls start (openings_below w w) →
+    two ≡ with_calls one (sendings w 0 words) → two ≡ with_calls start (script w words)
+unfolding script
+scripted_all w words start one two opened all = more_called start one two (sendings w 0 words) (openings_below w w) (script w words) opened all refl
 
 -- ---- one word more
 
-sendings_cons : (w j : ℕ) (word : CodedWord) (words : List CodedWord) → sendings w j (word ∷ words) ≡ sending w (j % w) word ++ sendings w (j + 1) words
+pub sendings_cons : (w j : ℕ) (word : CodedWord) (words : List CodedWord) → sendings w j (word ∷ words) ≡ sending w (j % w) word ++ sendings w (j + 1) words
 unfolding sendings
 sendings_cons w j word words = refl
 

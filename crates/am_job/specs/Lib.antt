@@ -1,6 +1,7 @@
 pub mod Lists
 pub mod Scripts
 pub mod Rounds
+pub mod Ready
 pub mod Asked
 pub mod Laws
 pub mod Words

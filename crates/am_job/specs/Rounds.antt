@@ -5,6 +5,7 @@ use Rattle.am_lemmas.specs.Bytes.{AreBytes}
 use Rattle.am_scenario_types.specs.declared.parts.Network.TheVariants.{Packet}
 use Rattle.am_scenario_types.specs.declared.parts.EndLine.{EndLine}
 use Rattle.am_scenario_types.specs.declared.parts.ThreadLine.{ThreadLine}
+use Rattle.am_scenario_types.specs.declared.parts.ScriptCall.{ScriptCall}
 use Rattle.am_scenario_types.specs.Lists.{ScenarioLists}
 use Rattle.am_job.specs.declared.words.codes.CodedWord.{CodedWord}
 use Rattle.am_job.specs.Words.Codes.{sent_words}
@@ -20,9 +21,9 @@ end_line e = record { id = record { 0 = e }; node = record { 0 = e / 2 }; tag = 
 abbrev pub thread_line : ℕ → ThreadLine
 thread_line n = record { id = n; node = record { 0 = n } }
 
--- the scenario in which w nodes send these words to their owners, with so many turns
-unfoldable pub scenario : ℕ → ℕ → List CodedWord → ScenarioLists
-scenario w turns words = record {
+-- the scenario of w nodes, with so many turns, in which their threads make these calls
+abbrev pub scripted : ℕ → ℕ → List ScriptCall → ScenarioLists
+scripted w turns calls = record {
   network = Packet;
   nodes = w;
   frames = 2;
@@ -38,9 +39,13 @@ scenario w turns words = record {
   threads = map thread_line (range_with_len 0 w);
   plan = [];
   faults = [];
-  script = script w words;
+  script = calls;
   steps = [];
 }
+
+-- the scenario in which w nodes send these words to their owners, with so many turns
+unfoldable pub scenario : ℕ → ℕ → List CodedWord → ScenarioLists
+scenario w turns words = scripted w turns (script w words)
 
 -- how many words a round of w nodes has at most
 abbrev pub round_size : ℕ → ℕ

@@ -5,14 +5,13 @@ use Rattle.am_office_entries.specs.declared.Call.TheVariants.{Request, Poll, Map
 use Rattle.am_office_entries.specs.declared.HandlerKind.TheVariants.{Note}
 use Rattle.am_scenario_types.specs.declared.parts.ScriptCall.{ScriptCall}
 use Rattle.am_job.specs.declared.words.codes.CodedWord.{CodedWord}
-use Rattle.am_scenario_generator.specs.Calls.{call_on}
 
 -- a thread's call on the endpoint of its node that owns, and on the one that sends
 abbrev pub on_owner : ℕ → Call → ScriptCall
-on_owner n call = call_on n (2 * n + 1) call
+on_owner n call = record { thread = n; endpoint = record { 0 = 2 * n + 1 }; call = call }
 
 abbrev pub on_sender : ℕ → Call → ScriptCall
-on_sender n call = call_on n (2 * n) call
+on_sender n call = record { thread = n; endpoint = record { 0 = 2 * n }; call = call }
 
 -- index k of the sender names the owner of node k; endpoint e has the tag 100 + e
 abbrev pub map_to : ℕ → Call

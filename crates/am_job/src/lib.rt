@@ -3,6 +3,7 @@
 
 pub mod count;
 mod counting;
+mod drafting;
 mod laws;
 pub mod run_laws;
 mod scenario;

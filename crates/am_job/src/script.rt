@@ -1,14 +1,17 @@
 //! What the threads of a round call.
 
-ghost use Rattle.std.specs.Prelude.{◌≡◌, ◌++◌, ◌%◌, ◌<◌, ◌≤◌, IfOk, OnOk};
+ghost use Rattle.std.specs.Prelude.{◌≡◌, ◌%◌, ◌<◌, ◌≤◌, OnOk};
 ghost use Rattle.am_office_entries.specs.declared.Call.TheVariants.{Request};
+ghost use Rattle.am_library_drafts.specs.Drafts.{with_calls};
+ghost use Rattle.am_job.specs.Ready.{IsReady};
 ghost use Rattle.am_job.specs.Scripts.{map_to, maps_below, on_owner, on_sender, opening, openings_below, owner, polls, script, sending, sendings};
 
+use crate::drafting::add;
 use crate::words::CodedWord;
-use am_names::{EndpointId, Tag};
+use am_library_drafts::Draft;
+use am_names::{EndpointId, NoMemory, Tag};
 use am_office_entries::{Call, HandlerKind};
 use am_scenario_types::ScriptCall;
-use std::alloc::{AllocError, Global};
 
 // A thread's call on the endpoint of its node that owns words.
 fn on_owner(n: u8, call: Call) -> ScriptCall
@@ -47,48 +50,52 @@ fn map_to(k: u8) -> Call
     }
 }
 
-fn map_all(script: &mut Vec<ScriptCall>, w: u8, n: u8) -> Result<(), AllocError>
+fn map_all(draft: &mut Draft, w: u8, n: u8) -> Result<(), NoMemory>
     requires nodes { w ≤ 8 }
-    requires thread { n < 8 }
-    ensures { OnOk result (script.new.items ≡ script.old.items ++ maps_below n w) }
+    requires thread { n < w }
+    requires ready { IsReady w (maps_below n w) draft.now }
+    ensures { OnOk result (draft.new ≡ with_calls draft.old (maps_below n w)) }
 {
     for k in 0..w {
-        script.push(on_sender(n, map_to(k)))?;
+        add(draft, on_sender(n, map_to(k)))?;
     }
     Ok(())
 }
 
 // The calls with which a thread begins.
-#[tactic(auto, using(std::proofs::Common::append_assoc), unfolding(crate::specs::Scripts::opening))]
-fn begin(script: &mut Vec<ScriptCall>, w: u8, n: u8) -> Result<(), AllocError>
+fn begin(draft: &mut Draft, w: u8, n: u8) -> Result<(), NoMemory>
     requires nodes { w ≤ 8 }
-    requires thread { n < 8 }
-    ensures { OnOk result (script.new.items ≡ script.old.items ++ opening w n) }
+    requires thread { n < w }
+    requires ready { IsReady w (opening w n) draft.now }
+    ensures { OnOk result (draft.new ≡ with_calls draft.old (opening w n)) }
 {
     let note = Call::SetHandler {
         index: 1,
         kind: HandlerKind::Note,
     };
-    script.push(on_owner(n, note))?;
-    map_all(script, w, n)
+    add(draft, on_owner(n, note))?;
+    map_all(draft, w, n)
 }
 
-fn begin_all(script: &mut Vec<ScriptCall>, w: u8) -> Result<(), AllocError>
-    requires { w ≤ 8 }
-    ensures { OnOk result (script.new.items ≡ script.old.items ++ openings_below w w) }
+fn begin_all(draft: &mut Draft, w: u8) -> Result<(), NoMemory>
+    requires nodes { w ≤ 8 }
+    requires ready { IsReady w (openings_below w w) draft.now }
+    ensures { OnOk result (draft.new ≡ with_calls draft.old (openings_below w w)) }
 {
     for n in 0..w {
-        begin(script, w, n)?;
+        begin(draft, w, n)?;
     }
     Ok(())
 }
 
-fn poll_often(script: &mut Vec<ScriptCall>, n: u8, times: u8) -> Result<(), AllocError>
-    requires { n < 8 }
-    ensures { OnOk result (script.new.items ≡ script.old.items ++ polls n times) }
+fn poll_often(draft: &mut Draft, w: u8, n: u8) -> Result<(), NoMemory>
+    requires nodes { w ≤ 8 }
+    requires thread { n < w }
+    requires ready { IsReady w (polls n w) draft.now }
+    ensures { OnOk result (draft.new ≡ with_calls draft.old (polls n w)) }
 {
-    for _poll in 0..times {
-        script.push(on_owner(n, Call::Poll))?;
+    for _poll in 0..w {
+        add(draft, on_owner(n, Call::Poll))?;
     }
     Ok(())
 }
@@ -107,17 +114,16 @@ fn request(w: u8, word: &CodedWord) -> Call
 }
 
 // A thread sends a word to its owner, and polls.
-#[tactic(auto, using(std::proofs::Common::append_assoc), unfolding(crate::specs::Scripts::sending))]
-fn send(script: &mut Vec<ScriptCall>, w: u8, n: u8, word: &CodedWord) -> Result<(), AllocError>
+fn send(draft: &mut Draft, w: u8, n: u8, word: &CodedWord) -> Result<(), NoMemory>
     requires some { 0 < w }
     requires nodes { w ≤ 8 }
-    requires thread { n < 8 }
-    ensures { OnOk result (script.new.items ≡ script.old.items ++ sending w n word.now) }
+    requires thread { n < w }
+    requires ready { IsReady w (sending w n word.now) draft.now }
+    ensures { OnOk result (draft.new ≡ with_calls draft.old (sending w n word.now)) }
 {
-    script.push(on_sender(n, request(w, word)))?;
-    poll_often(script, n, w)?;
-    script.push(on_sender(n, Call::Poll))?;
-    Ok(())
+    add(draft, on_sender(n, request(w, word)))?;
+    poll_often(draft, w, n)?;
+    add(draft, on_sender(n, Call::Poll))
 }
 
 // The thread that sends the word at this place.
@@ -130,26 +136,26 @@ fn turn(j: usize, w: u8) -> u8
 }
 
 // The threads send words in turn.
-fn send_all(script: &mut Vec<ScriptCall>, w: u8, words: &[CodedWord]) -> Result<(), AllocError>
+fn send_all(draft: &mut Draft, w: u8, words: &[CodedWord]) -> Result<(), NoMemory>
     requires some { 0 < w }
     requires nodes { w ≤ 8 }
-    ensures { OnOk result (script.new.items ≡ script.old.items ++ sendings w 0 words.now) }
+    requires ready { IsReady w (sendings w 0 words.now) draft.now }
+    ensures { OnOk result (draft.new ≡ with_calls draft.old (sendings w 0 words.now)) }
 {
     for (j, word) in words.iter().enumerate() {
-        send(script, w, turn(j, w), word)?;
+        send(draft, w, turn(j, w), word)?;
     }
     Ok(())
 }
 
-/// The calls of a round of words, in order of the threads where they begin, and then of the words.
-#[tactic(auto, unfolding(crate::specs::Scripts::script))]
-pub fn make_script(alloc: Global, w: u8, words: &[CodedWord]) -> Result<Vec<ScriptCall>, AllocError>
+/// The calls of a round of words, in order of the threads where they begin, and then of the words. NoMemory: the draft may have some of
+/// them.
+pub fn make_script(draft: &mut Draft, w: u8, words: &[CodedWord]) -> Result<(), NoMemory>
     requires some { 0 < w }
     requires nodes { w ≤ 8 }
-    ensures { IfOk result (λ made. made.items ≡ script w words.now) }
+    requires ready { IsReady w (script w words.now) draft.now }
+    ensures { OnOk result (draft.new ≡ with_calls draft.old (script w words.now)) }
 {
-    let mut script = Vec::with_capacity(alloc, 16_384)?;
-    begin_all(&mut script, w)?;
-    send_all(&mut script, w, words)?;
-    Ok(script)
+    begin_all(draft, w)?;
+    send_all(draft, w, words)
 }

@@ -1,3 +1,4 @@
 pub mod Faulty
 pub mod Drafted
 pub mod OnNodes
+pub mod Welcome

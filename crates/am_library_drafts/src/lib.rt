@@ -3,7 +3,9 @@
 
 pub mod calls;
 mod draft;
+mod laws;
 pub mod lines;
 mod rounds;
 
 pub use draft::{Draft, DraftFault, Setting};
+pub use laws::drafts_welcome;

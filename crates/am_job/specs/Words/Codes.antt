@@ -1,5 +1,5 @@
 -- A word in the four words of a request: its length, and its bytes with zeros after them.
-use Rattle.std.specs.Prelude.{ℕ, ◌-◌, ◌^◌, ◌<◌, ◌&&◌, nat_le, List, length, take, drop, map, sum, if◌then◌else◌, Option, Some, None}
+use Rattle.std.specs.Prelude.{ℕ, ◌^◌, ◌<◌, ◌&&◌, nat_le, List, length, take, drop, map, sum, if◌then◌else◌, Option, Some, None}
 use Rattle.am_segment_pieces.specs.Blocks.{padded}
 use Rattle.am_names.specs.declared.Words.{Words}
 use Rattle.am_job.specs.declared.words.codes.CodedWord.{CodedWord}

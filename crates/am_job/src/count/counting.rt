@@ -1,10 +1,9 @@
 //! The rounds are run one after another, and counted.
 
 ghost use Rattle.std.specs.Prelude.{◌≡◌, ◌<◌, ◌≤◌, IfErr, IfOk, OnOk, length};
-ghost use Rattle.std.specs.List.{All};
 ghost use Rattle.am_scenario_types.specs.Lawful.{IsLawful, IsOfForm};
 ghost use Rattle.am_scenario_types.specs.declared.parts.Form.TheVariants.{Run};
-ghost use Rattle.am_job.specs.Words.Codes.{Fits, sent_words};
+ghost use Rattle.am_job.specs.Words.Codes.{sent_words};
 ghost use Rattle.am_job.specs.Rounds.{round_count};
 ghost use Rattle.am_job.specs.Count.Counting.{CountsAll, HasCounted, PrintsCount};
 ghost use Rattle.am_job.specs.Count.Stops.{IsCountStop, IsRoundStop};
@@ -96,7 +95,6 @@ fn count_rounds<T: Threads + Sync, R: Runner>(
     requires some { 0 < w }
     requires nodes { w ≤ 8 }
     requires turns { turns ≤ 10000 }
-    requires fit { All Fits sent.now }
     ensures counted { IfOk result (CountsAll (R.is_run runner.now) w turns sent.now (round_count w (length sent.now))) }
     ensures stop { IfErr result (IsCountStop (R.is_run runner.now) (R.is_cut runner.now) w turns sent.now) }
 {

@@ -1,4 +1,4 @@
-use Rattle.std.proofs.Common.{◌+◌, sym, ◌∙◌, arith}
+use Rattle.std.proofs.Common.{sym, ◌∙◌, arith}
 use Rattle.am_job.proofs.Parted.{long_few, parts_all, parts_byte, parts_gap}
 use Rattle.am_job.proofs.words.texts.split.Goals as goal
 use Rattle.am_job.proofs.words.texts.split.Goals.{then-is_gap+in_ok-take_run, else-is_gap}

@@ -1,0 +1,6 @@
+use Rattle.am_names.specs.declared.EndpointId.{EndpointId}
+use Rattle.am_library_drafts.proofs.Welcome.{refused_for}
+use Rattle.am_job.proofs.drafting.add_end.Goals as goal
+
+pub only_memory-requires : goal.only_memory-requires
+only_memory-requires c = refused_for EndpointId c.in-Err.fault _ c.requires c.in-Err.ensures.refused
