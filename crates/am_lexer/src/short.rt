@@ -6,7 +6,7 @@ ghost use Rattle.am_lexer.specs.Fields.{number_at};
 
 // The number that digits spell up to a space or the end of the text, and what stands behind it. None where that
 // doesn't say all, as of a number of 19 digits and more.
-#[inline(always)]
+#[inline(never)]
 fn leading_number(text: &[u8]) -> Option<(u64, &[u8])>
     ensures { IfSome result (λ found. number_at (words_of text.now) ≡ Ok (found.0, words_of found.1.now)) }
 {

@@ -1,5 +1,5 @@
 -- A source's messages, changed at the place of a count.
-use Rattle.std.proofs.Common.{◌≡◌, ℕ, zero, suc, ◌<◌, ◌≤◌, ◌-◌, Bool, true, false, if◌then◌else◌, List, [], ◌∷◌, refl, sym, ap, ◌∙◌, map, length, get_or}
+use Rattle.std.proofs.Common.{◌≡◌, ℕ, zero, suc, ◌<◌, ◌≤◌, ◌-◌, Bool, true, false, if◌then◌else◌, List, [], ◌∷◌, ◌++◌, refl, sym, ap, ◌∙◌, map, length, get_or}
 use Rattle.std.proofs.Common.{slice_set, inl, inr, arith}
 use Rattle.std.specs.List.{insert}
 use Rattle.std.specs.List.Sorted.{IsStrictlySortedBy}
@@ -197,6 +197,15 @@ put_there rows c i v r is p there =
 
 pub put_missing : (rows : List Row) (c i : ℕ) (v : MessageState) → IsPlace rows c i → IsMissing rows c i → insert rows i (c, v) ≡ insert_entry nat_cmp rows c v
 put_missing rows c i v p missing = sym (inserted rows c i v p missing.other)
+
+insert_last : (rows : List Row) (r : Row) → insert rows (length rows) r ≡ rows ++ r ∷ []
+insert_last [] r = refl
+insert_last (first ∷ rows) r = ap (λ (rest : List Row). first ∷ rest) (insert_last rows r)
+
+pub put_last : (rows : List Row) (c i : ℕ) (v : MessageState) → IsPlace rows c i → i ≡ length rows → rows ++ (c, v) ∷ [] ≡ insert_entry nat_cmp rows c v
+put_last rows c i v p last =
+    sym (insert_last rows (c, v)) ∙ ap (λ (k : ℕ). insert rows k (c, v)) (sym last)
+    ∙ put_missing rows c i v p (record { other = λ d below same. absurd (omega (arith, below, last)) })
 
 heard_same : (c : ℕ) (news : News) (r : Row) → r.0 ≡ c → (r.0, heard_if true news r.1) ≡ heard c news r
 heard_same c news r same = elim (eqb_tells r.0 c) [

@@ -65,6 +65,10 @@ fn put(
     requires { IsPlace rows.old.items count place }
     ensures { rows.new.items ≡ (if is_ok result then insert_entry nat_cmp rows.old.items count state else rows.old.items) }
 {
+    if place == rows.len() {
+        rows.push((count, state))?;
+        return Ok(());
+    }
     if has_count(rows, place, count) {
         rows[place].1 = state;
         return Ok(());

@@ -10,16 +10,6 @@ behind n ds some small tens = decimal_step n some (omega arith) ∙ ap (λ (x : 
 pub two_digits : (n : ℕ) → 10 ≤ n → n / 10 < 10 → decimal n ≡ (48 + n / 10) ∷ (48 + n % 10) ∷ []
 two_digits n some small = behind n ((48 + n / 10) ∷ []) some (omega arith) (decimal_digit (n / 10) small)
 
-pub three_digits : (n : ℕ) → 10 ≤ n / 10 → n / 10 / 10 < 10 → decimal n ≡ (48 + n / 10 / 10) ∷ (48 + n / 10 % 10) ∷ (48 + n % 10) ∷ []
-three_digits n some small = behind n ((48 + n / 10 / 10) ∷ (48 + n / 10 % 10) ∷ []) (omega arith) (omega arith) (two_digits (n / 10) some small)
-
-pub four_digits : (n : ℕ) → 10 ≤ n / 10 / 10 → n < 10000 → decimal n ≡ (48 + n / 10 / 10 / 10) ∷ (48 + n / 10 / 10 % 10) ∷ (48 + n / 10 % 10) ∷ (48 + n %
-    10) ∷ []
-four_digits n some small =
-    behind n ((48 + n / 10 / 10 / 10) ∷ (48 + n / 10 / 10 % 10) ∷ (48 + n / 10 % 10) ∷ []) (omega arith) small (three_digits (n / 10) some (omega arith))
-
-pub ruleset few_digits = (two_digits, three_digits, four_digits)
-
 -- Four that are put behind others one after another stand behind them.
 in_turn : {A : Type 0} (xs : List A) (a b c d : A) → (((xs ++ a ∷ []) ++ b ∷ []) ++ c ∷ []) ++ d ∷ [] ≡ xs ++ a ∷ b ∷ c ∷ d ∷ []
 in_turn xs a b c d =
@@ -30,9 +20,26 @@ in_turn xs a b c d =
 step : (n : ℕ) (ds : List ℕ) → 10 ≤ n → n < 2 ^ 64 → decimal (n / 10) ≡ ds → decimal n ≡ ds ++ (48 + n % 10) ∷ []
 step n ds some small tens = decimal_step n some small ∙ ap (λ (x : List ℕ). x ++ (48 + n % 10) ∷ []) tens
 
+-- The last two stand behind those of the hundreds.
+pub last_two : (n : ℕ) → 100 ≤ n → n < 10000 → decimal n ≡ decimal (n / 100) ++ (48 + n % 100 / 10) ∷ (48 + n % 100 % 10) ∷ []
+last_two n some small =
+    behind n (decimal (n / 10 / 10) ++ (48 + n / 10 % 10) ∷ []) (omega (arith, some)) small
+    (behind (n / 10) (decimal (n / 10 / 10)) (omega (arith, some)) (omega (arith, small)) refl)
+    ∙ append_assoc (decimal (n / 10 / 10)) ((48 + n / 10 % 10) ∷ []) ((48 + n % 10) ∷ [])
+    ∙ (λ j. decimal (high j) ++ (48 + ten j) ∷ (48 + one j) ∷ [])
+  where
+    high : n / 10 / 10 ≡ n / 100
+    high = omega arith
+
+    ten : n / 10 % 10 ≡ n % 100 / 10
+    ten = omega arith
+
+    one : n % 10 ≡ n % 100 % 10
+    one = omega arith
+
 -- The last four stand behind those of the ten thousands.
 pub last_four : (n : ℕ) → 10000 ≤ n → n < 100000000 →
-    decimal n ≡ decimal (n / 10000) ++ (48 + n % 10000 / 1000) ∷ (48 + n % 10000 / 100 % 10) ∷ (48 + n % 10000 / 10 % 10) ∷ (48 + n % 10000 % 10) ∷ []
+    decimal n ≡ decimal (n / 10000) ++ (48 + n % 10000 / 100 / 10) ∷ (48 + n % 10000 / 100 % 10) ∷ (48 + n % 10000 % 100 / 10) ∷ (48 + n % 10000 % 100 % 10) ∷ []
 last_four n some small =
     let ones = step n (((decimal (n / 10 / 10 / 10 / 10) ++ a ∷ []) ++ b ∷ []) ++ c ∷ []) (omega (arith, some)) (omega (arith, small)) (tens) in
     ones
@@ -60,14 +67,14 @@ last_four n some small =
     high : n / 10 / 10 / 10 / 10 ≡ n / 10000
     high = omega arith
 
-    thousands : n / 10 / 10 / 10 % 10 ≡ n % 10000 / 1000
+    thousands : n / 10 / 10 / 10 % 10 ≡ n % 10000 / 100 / 10
     thousands = omega arith
 
     hundreds : n / 10 / 10 % 10 ≡ n % 10000 / 100 % 10
     hundreds = omega arith
 
-    ten : n / 10 % 10 ≡ n % 10000 / 10 % 10
+    ten : n / 10 % 10 ≡ n % 10000 % 100 / 10
     ten = omega arith
 
-    one : n % 10 ≡ n % 10000 % 10
+    one : n % 10 ≡ n % 10000 % 100 % 10
     one = omega arith

@@ -4,7 +4,7 @@
 //! no list, no loop over it and no copy of unknown length is left, and a text is a store or two. A number of two or more
 //! digits is a call.
 
-ghost use Rattle.std.specs.Prelude.{◌≡◌, ◌<◌, ◌≤◌, ◌+◌, ◌∷◌, ◌++◌, OnOk, codes, map};
+ghost use Rattle.std.specs.Prelude.{◌≡◌, ◌<◌, ◌≤◌, ◌+◌, ◌/◌, ◌%◌, [], ◌∷◌, ◌++◌, OnOk, codes, map, vec_capacity, vec_len};
 ghost use Rattle.std.specs.Fmt.{decimal};
 ghost use Rattle.am_office_text.specs.declared.pieces.LinePiece.TheVariants as Pieces;
 ghost use Rattle.am_office_text.specs.Words as text;
@@ -78,46 +78,98 @@ fn put_long_after(out: &mut Vec<u8>, lead: u8, number: u64) -> Result<(), AllocE
     put_text_after(out, lead, buffer.format(number))
 }
 
-// Appends a byte and a number of two to four digits.
-#[tactic(auto, using(crate::proofs::Digits::few_digits))]
+// Appends the digit of a number below 10. There is room for it.
 #[inline(always)]
-fn put_few_digits_after(out: &mut Vec<u8>, lead: u8, number: u64) -> Result<(), AllocError>
-    requires { (10 ≤ number) × (number < 10000) }
-    ensures ok { OnOk result (out.new.items ≡ out.old.items ++ lead ∷ decimal number) }
-    ensures kept { Extends out.old.items out.new.items }
+fn put_digit(out: &mut Vec<u8>, number: u64)
+    requires small { number < 10 }
+    requires room { vec_len out.old < vec_capacity out.old }
+    ensures items { out.new.items ≡ out.old.items ++ (48 + number) ∷ [] }
+    ensures len { vec_len out.new ≡ vec_len out.old + 1 }
+    ensures capacity { vec_capacity out.new ≡ vec_capacity out.old }
 {
-    let (tens, last) = (number / 10, digit(number % 10));
-    if tens < 10 {
-        return put_bytes(out, &[lead, digit(tens), last]);
-    }
-    let (hundreds, third) = (tens / 10, digit(tens % 10));
-    if hundreds < 10 {
-        return put_bytes(out, &[lead, digit(hundreds), third, last]);
-    }
-    let (first, second) = (digit(hundreds / 10), digit(hundreds % 10));
-    put_bytes(out, &[lead, first, second, third, last])
+    out.push_reserved(digit(number));
 }
 
-// Appends a byte and a number of five to eight digits: those of its ten thousands, and then the last four.
-#[tactic(auto, using(crate::proofs::Digits::last_four, crate::proofs::Extended::extension, std::proofs::lemmas::Fmt::decimal_digit))]
+// Appends both digits of a number below 100. There is room for them.
+#[tactic(auto, using(std::proofs::Common::append_assoc))]
 #[inline(always)]
-fn put_more_digits_after(out: &mut Vec<u8>, lead: u8, number: u64) -> Result<(), AllocError>
-    requires { (10000 ≤ number) × (number < 100000000) }
-    ensures ok { OnOk result (out.new.items ≡ out.old.items ++ lead ∷ decimal number) }
-    ensures kept { Extends out.old.items out.new.items }
+fn put_pair(out: &mut Vec<u8>, number: u64)
+    requires small { number < 100 }
+    requires room { vec_len out.old + 2 ≤ vec_capacity out.old }
+    ensures items { out.new.items ≡ out.old.items ++ (48 + number / 10) ∷ (48 + number % 10) ∷ [] }
+    ensures len { vec_len out.new ≡ vec_len out.old + 2 }
+    ensures capacity { vec_capacity out.new ≡ vec_capacity out.old }
 {
-    let (high, low) = (number / 10_000, number % 10_000);
-    if high < 10 {
-        put_bytes(out, &[lead, digit(high)])?;
+    put_digit(out, number / 10);
+    put_digit(out, number % 10);
+}
+
+// Appends the four digits of a number below 10,000. There is room for them.
+#[tactic(auto, using(std::proofs::Common::append_assoc))]
+#[inline(always)]
+fn put_four(out: &mut Vec<u8>, number: u64)
+    requires small { number < 10000 }
+    requires room { vec_len out.old + 4 ≤ vec_capacity out.old }
+    ensures items { out.new.items ≡ out.old.items ++ (48 + number / 100 / 10) ∷ (48 + number / 100 % 10) ∷ (48 + number % 100 / 10) ∷ (48 + number % 100 % 10) ∷ [] }
+{
+    put_pair(out, number / 100);
+    put_pair(out, number % 100);
+}
+
+// Appends a number of one or two digits. There is room for them.
+#[tactic(auto, using(crate::proofs::Digits::two_digits, std::proofs::lemmas::Fmt::decimal_digit))]
+#[inline(always)]
+fn put_short(out: &mut Vec<u8>, number: u64)
+    requires small { number < 100 }
+    requires room { vec_len out.old + 2 ≤ vec_capacity out.old }
+    ensures items { out.new.items ≡ out.old.items ++ decimal number }
+    ensures len { vec_len out.new ≤ vec_len out.old + 2 }
+    ensures capacity { vec_capacity out.new ≡ vec_capacity out.old }
+{
+    if number < 10 {
+        put_digit(out, number);
     } else {
-        put_few_digits_after(out, lead, high)?;
+        put_pair(out, number);
     }
-    let (first, second) = (digit(low / 1000), digit(low / 100 % 10));
-    put_bytes(out, &[first, second, digit(low / 10 % 10), digit(low % 10)])
+}
+
+// Appends a number of one to four digits. There is room for them.
+#[tactic(auto, using(crate::proofs::Digits::last_two, std::proofs::Common::append_assoc))]
+#[inline(always)]
+fn put_few(out: &mut Vec<u8>, number: u64)
+    requires small { number < 10000 }
+    requires room { vec_len out.old + 4 ≤ vec_capacity out.old }
+    ensures items { out.new.items ≡ out.old.items ++ decimal number }
+    ensures len { vec_len out.new ≤ vec_len out.old + 4 }
+    ensures capacity { vec_capacity out.new ≡ vec_capacity out.old }
+{
+    if number < 100 {
+        put_short(out, number);
+    } else {
+        put_short(out, number / 100);
+        put_pair(out, number % 100);
+    }
+}
+
+// Appends a number of one to eight digits. There is room for them.
+#[tactic(auto, using(crate::proofs::Digits::last_four, std::proofs::Common::append_assoc))]
+#[inline(always)]
+fn put_digits(out: &mut Vec<u8>, number: u64)
+    requires small { number < 100000000 }
+    requires room { vec_len out.old + 8 ≤ vec_capacity out.old }
+    ensures items { out.new.items ≡ out.old.items ++ decimal number }
+{
+    if number < 10_000 {
+        put_few(out, number);
+    } else {
+        put_few(out, number / 10_000);
+        put_four(out, number % 10_000);
+    }
 }
 
 // Appends a byte and a number of two or more digits. Where there is no room for nine bytes yet, the number is taken as a
 // long one: so what is done often calls nothing.
+#[tactic(auto, using(crate::proofs::Extended::extension))]
 #[inline(never)]
 fn put_digits_after(out: &mut Vec<u8>, lead: u8, number: u64) -> Result<(), AllocError>
     requires { 10 ≤ number }
@@ -127,11 +179,9 @@ fn put_digits_after(out: &mut Vec<u8>, lead: u8, number: u64) -> Result<(), Allo
     if number >= 100_000_000 || out.capacity() - out.len() < 9 {
         return put_long_after(out, lead, number);
     }
-    if number < 10_000 {
-        put_few_digits_after(out, lead, number)
-    } else {
-        put_more_digits_after(out, lead, number)
-    }
+    out.push_reserved(lead);
+    put_digits(out, number);
+    Ok(())
 }
 
 // Appends a byte and a number.
