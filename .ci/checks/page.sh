@@ -1,6 +1,6 @@
 #!/usr/bin/env bash
-# The page of a report: that its texts in the program are those of the crate's folder page, that the one in docs is what is printed, and
-# what a browser shows of pages, clicked and typed at, against a second reading of the reports.
+# The page of a report: that its texts in the program are those of the crate's folder page, that the one in docs is what is printed, that
+# the examples' pages carry the changes of a second reading, and what a browser shows of pages, clicked and typed at, against that.
 set -u
 python3 -B check/page_texts.py || exit 1
 . .ci/program.sh
