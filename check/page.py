@@ -35,6 +35,8 @@ ROLES = "button checkbox combobox searchbox textbox slider listbox option image 
 WAY = r"\d+\.\d+ packet \d+, \d+ to \d+, line \d+ to \d+"
 CHANGE = "document.querySelector('#side .changes')?.textContent ?? ''"
 BREAKING = "# </script><script>document.title='out'</script><img src=x onerror=alert(1)>\n# <!-- ' \" ]]> <svg onload=alert(2)>\n"
+# how many entries a report has at most whose page carries what each changed
+MOST_CARRIED = 2000
 
 
 def wide_scenario():
@@ -188,12 +190,12 @@ def changed(trial, serial, most=60):
 
 def carried(trial):
     """A report of 2,000 entries carries what they changed, and one of more says that it doesn't."""
-    for count in (2000, 2001):
+    for count in (MOST_CARRIED, MOST_CARRIED + 1):
         text = trial.page(f"entries-{count}", long_scenario(count), address="#/3")
         trial.is_so("so many entries", len(trial.entries), count)
-        trial.is_so("the changes are carried", '<template id="changes">' in text, count == 2000)
-        trial.says("what the first changed", CHANGE, changes(trial.scenario, trial.report)[3] if count == 2000 else "")
-        trial.says("that none are carried", "document.querySelector('#side').textContent.includes('carries no changes')", count != 2000)
+        trial.is_so("the changes are carried", '<template id="changes">' in text, count == MOST_CARRIED)
+        trial.says("what the first changed", CHANGE, changes(trial.scenario, trial.report)[3] if count == MOST_CARRIED else "")
+        trial.says("that none are carried", "document.querySelector('#side').textContent.includes('carries no changes')", count != MOST_CARRIED)
 
 
 def failures(trial):
@@ -341,7 +343,8 @@ def whole(trial, serial, endpoint, narrower):
     lines_and_heads(trial)
     messages(trial, serial)
     endings(trial)
-    changed(trial, serial)
+    if len(trial.entries) <= MOST_CARRIED:
+        changed(trial, serial)
     failures(trial)
     filters(trial, endpoint)
     moves(trial)
