@@ -33,7 +33,8 @@ const TOO_LONG: &[u8] = b"input too long: more than 16777216 bytes\n";
 /// begins with the given words, and of which none can be left out. `json` answers a right report with its journal as lines of JSON, `page`
 /// with a page that has both the journal and the picture, and `state`
 /// with the machine's state at its end or behind a line, or with what changed from one line to another.
-/// The given words are of use for `find` and `shrink` alone.
+/// `why --front` and `chart --front` answer a report that has a fault with what stands in front of it, and one behind the line of a full
+/// log, with status 6, with what is there. The given words are of use for `find` and `shrink` alone.
 ///
 /// | Status | The text | When |
 /// |---|---|---|

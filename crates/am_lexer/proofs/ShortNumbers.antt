@@ -1,6 +1,6 @@
 -- A short number at the head of a text, read digit by digit.
 use Rattle.std.proofs.Common.{◌≡◌, ℕ, zero, suc, ◌≤◌, ◌<◌, ◌+◌, ◌-◌, ◌*◌, ◌^◌, true, false, eqb, ltb, List, [], ◌∷◌, ◌++◌, length, get_or, take, drop, Some, Ok}
-use Rattle.std.proofs.Common.{refl, ◌∙◌, not, inl, inr, add-one, zero-add, subst, arith}
+use Rattle.std.proofs.Common.{refl, ◌∙◌, not, inl, inr, add-one, arith}
 use Rattle.std.specs.List.{list_all}
 use Rattle.std.proofs.Math.Seq.{take-suc}
 use Rattle.std.proofs.lemmas.Bool.{cases_eq, eq-eqb, lt-ltb}
@@ -74,9 +74,3 @@ behind_space rest space = spaces_skipped 1 rest (λ k lt. only_space rest k (ome
 
 pub digit_at_most : (b : ℕ) → is_digit b ≡ true → b - 48 ≤ 9
 digit_at_most b e = grind (arith, e)
-
--- behind the first digit
-pub first_digit : (text : List ℕ) → 0 < length text → is_digit (get_or text 0 0) ≡ true → Spells text 1 (get_or text 0 0 - 48)
-first_digit text some digit =
-    let nothing : Spells text 0 0 = record { digits = refl; value = refl; apart = λ k lt. absurd (omega (arith, lt)) } in
-    subst (λ number. Spells text 1 number) (zero-add (get_or text 0 0 - 48)) (one_digit_more text 0 0 some digit nothing)
